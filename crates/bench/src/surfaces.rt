@@ -32,7 +32,7 @@ fn split<'a>(alloc: Global, input: &'a [u8], separator: &str) -> Option<Vec<&'a 
 
 // A text joins the surface.
 fn add_text(surface: &mut Plain, text: &str) -> Option<()> {
-    let mut own = surface.spare_text();
+    let mut own = surface.pooled_text();
     own.push_str(text).ok()?;
     surface.add_change(own).ok()?;
     Some(())

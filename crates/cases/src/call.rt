@@ -27,19 +27,19 @@ impl<'a> Call<'a> {
     }
 
     /// A word, the name at 0; one that isn't there is empty.
-    pub fn word(&self, place: usize) -> &'a str {
-        self.words.get(place).copied().unwrap_or("")
+    pub fn word(&self, index: usize) -> &'a str {
+        self.words.get(index).copied().unwrap_or("")
     }
 
     /// The words from a position on.
-    pub fn words_from(&self, place: usize) -> &[&'a str] {
-        let (_, words) = self.words.split_at(place.min(self.words.len()));
+    pub fn words_from(&self, index: usize) -> &[&'a str] {
+        let (_, words) = self.words.split_at(index.min(self.words.len()));
         words
     }
 
     /// An argument that is a number; where it isn't, the sheet fails.
-    pub fn number(&self, place: usize, sheet: &mut Sheet) -> usize {
-        match self.word(place).parse::<usize>() {
+    pub fn number(&self, index: usize, sheet: &mut Sheet) -> usize {
+        match self.word(index).parse::<usize>() {
             Ok(value) => value,
             Err(_) => {
                 sheet.fail(Fault::Number);
@@ -54,10 +54,10 @@ impl<'a> Call<'a> {
     }
 
     /// An argument that is a number from 1 up; where it isn't, the sheet fails.
-    pub fn number_from_one(&self, place: usize, sheet: &mut Sheet) -> usize
+    pub fn number_from_one(&self, index: usize, sheet: &mut Sheet) -> usize
         ensures { 1 ≤ result }
     {
-        let value = self.number(place, sheet);
+        let value = self.number(index, sheet);
         if value < 1 {
             sheet.fail(Fault::Number);
         }
@@ -65,17 +65,17 @@ impl<'a> Call<'a> {
     }
 
     /// An argument that is a text.
-    pub fn text(&self, place: usize) -> Result<String, Fault> {
-        text_of(self.alloc, self.word(place))
+    pub fn text(&self, index: usize) -> Result<String, Fault> {
+        text_of(self.alloc, self.word(index))
     }
 
     /// An argument that is the text of a cell with these attributes.
-    pub fn cell(&self, place: usize, attrs: &CellAttributes) -> Result<Cell, Fault> {
-        cell_of(self.alloc, self.word(place), attrs)
+    pub fn cell(&self, index: usize, attrs: &CellAttributes) -> Result<Cell, Fault> {
+        cell_of(self.alloc, self.word(index), attrs)
     }
 }
 
-// The text that a word stands for.
+// The text of a word: empty for `""`, else the word with its escapes read.
 fn text_of(alloc: Global, word: &str) -> Result<String, Fault> {
     escapes::read_text(alloc, if word == "\"\"" { "" } else { word })
 }

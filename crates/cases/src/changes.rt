@@ -30,7 +30,7 @@ fn say_position(position: &Position, sheet: &mut Sheet) {
     }
 }
 
-fn say_place(x: &Position, y: &Position, sheet: &mut Sheet) {
+fn say_positions(x: &Position, y: &Position, sheet: &mut Sheet) {
     sheet.word("to");
     say_position(x, sheet);
     say_position(y, sheet);
@@ -63,7 +63,7 @@ fn say_change(change: &Change, sheet: &mut Sheet) {
         Change::ClearScreen(color) => say_color("clear_screen", color, sheet),
         Change::ClearToEndOfLine(color) => say_color("clear", color, sheet),
         Change::ClearToEndOfScreen(color) => say_color("clear_below", color, sheet),
-        Change::CursorPosition { x, y } => say_place(x, y, sheet),
+        Change::CursorPosition { x, y } => say_positions(x, y, sheet),
         Change::CursorVisibility(visibility) => say_visibility(*visibility, sheet),
         Change::CursorShape(shape) => sheet.debug(shape),
         Change::CursorColor(color) => say_color("cursor_color", color, sheet),

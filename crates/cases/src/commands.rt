@@ -13,7 +13,7 @@ fn parts_of(alloc: Global, body: &[u8]) -> Result<Vec<&[u8]>, Fault> {
     Ok(body.split(|byte| *byte == b';').collect(alloc)?)
 }
 
-// What stands between `ESC ]` and `ESC \`.
+// The bytes between `ESC ]` and `ESC \`.
 fn body_in(bytes: &[u8]) -> Option<&[u8]> {
     bytes.strip_prefix(b"\x1b]")?.strip_suffix(b"\x1b\\")
 }

@@ -1,7 +1,7 @@
 //! Calls that edit the line, with their arguments in the order of the call's and the number last.
 use crate::call::Call;
 use crate::fault::Fault;
-use crate::lines::told;
+use crate::lines::say_outcome;
 use crate::sheet::Sheet;
 use cell_base::{Cell, CellAttributes, ProgramWidth};
 use cell_line::Line;
@@ -11,12 +11,12 @@ fn edit_by_cell(line: &mut Line, call: &Call<'_>, cell: Cell, sheet: &mut Sheet)
     let number = call.last_number(sheet);
     let at = call.number(1, sheet);
     match call.word(0) {
-        "set_cell" => told(line.set_cell(at, cell, number), sheet),
+        "set_cell" => say_outcome(line.set_cell(at, cell, number), sheet),
         "insert_cell" => {
             let margin = call.number_from_one(3, sheet);
-            told(line.insert_cell(at, cell, margin, number), sheet);
+            say_outcome(line.insert_cell(at, cell, margin, number), sheet);
         }
-        _ => told(
+        _ => say_outcome(
             line.set_cell_clearing_image_placements(at, cell, number),
             sheet,
         ),
@@ -36,23 +36,23 @@ fn edit_by_attributes(
     match call.word(0) {
         "set_cell_grapheme" => {
             let width = call.number_from_one(3, sheet).min(2);
-            told(
+            say_outcome(
                 line.set_cell_grapheme(at, text, width, attrs, number),
                 sheet,
             );
         }
         "overlay_text_with_attribute" => {
             let done = line.overlay_text_with_attribute(at, text, attrs, number, &ProgramWidth);
-            told(done, sheet);
+            say_outcome(done, sheet);
         }
         "erase_cell_with_margin" => {
             let margin = call.number_from_one(2, sheet);
-            told(
+            say_outcome(
                 line.erase_cell_with_margin(at, margin, number, attrs),
                 sheet,
             );
         }
-        _ => told(line.resize_and_clear(at, number, attrs), sheet),
+        _ => say_outcome(line.resize_and_clear(at, number, attrs), sheet),
     }
 }
 
@@ -60,16 +60,16 @@ fn edit_by_attributes(
 fn edit_by_numbers(line: &mut Line, call: &Call<'_>, sheet: &mut Sheet) -> bool {
     let number = call.last_number(sheet);
     match call.word(0) {
-        "resize" => told(line.resize(call.number(1, sheet), number), sheet),
-        "erase_cell" => told(line.erase_cell(call.number(1, sheet), number), sheet),
-        "remove_cell" => told(line.remove_cell(call.number(1, sheet), number), sheet),
-        "prune_trailing_blanks" => told(line.prune_trailing_blanks(number), sheet),
+        "resize" => say_outcome(line.resize(call.number(1, sheet), number), sheet),
+        "erase_cell" => say_outcome(line.erase_cell(call.number(1, sheet), number), sheet),
+        "remove_cell" => say_outcome(line.remove_cell(call.number(1, sheet), number), sheet),
+        "prune_trailing_blanks" => say_outcome(line.prune_trailing_blanks(number), sheet),
         "invalidate_implicit_hyperlinks" => {
-            told(line.invalidate_implicit_hyperlinks(number), sheet);
+            say_outcome(line.invalidate_implicit_hyperlinks(number), sheet);
         }
         _ => {
             let wrapped = call.word(1) == "true";
-            told(line.set_last_cell_was_wrapped(wrapped, number), sheet);
+            say_outcome(line.set_last_cell_was_wrapped(wrapped, number), sheet);
         }
     }
     true
@@ -92,7 +92,7 @@ fn set_bits(line: &mut Line, call: &Call<'_>, sheet: &mut Sheet) -> bool {
 fn append(line: &mut Line, call: &Call<'_>, sheet: &mut Sheet) -> Result<(), Fault> {
     let text = call.text(1)?;
     let other = Line::try_from_text(call.alloc(), text.as_str(), &ProgramWidth)?;
-    told(line.append_line(other, call.last_number(sheet)), sheet);
+    say_outcome(line.append_line(other, call.last_number(sheet)), sheet);
     Ok(())
 }
 
@@ -119,7 +119,7 @@ fn slant_lent(line: &mut Line, at: usize, sheet: &mut Sheet) -> Result<(), Fault
 
 /// Makes a call that edits the line, by its name: its arguments in order, the number last. `cells_mut PLACE CELL`
 /// writes a cell that is lent, `cells_mut_for_attr_changes_only PLACE` makes one italic; both say how many are lent.
-/// Whether it is such a call.
+/// Returns whether it is one of these calls.
 pub fn edit(
     line: &mut Line,
     call: &Call<'_>,
@@ -127,14 +127,14 @@ pub fn edit(
     sheet: &mut Sheet,
 ) -> Result<bool, Fault> {
     match call.word(0) {
-        "compress_for_scrollback" => told(line.compress_for_scrollback(), sheet),
+        "compress_for_scrollback" => say_outcome(line.compress_for_scrollback(), sheet),
         "append_line" => append(line, call, sheet)?,
         "cells_mut" => write_lent(line, call.number(1, sheet), call.cell(2, pen)?, sheet)?,
         "cells_mut_for_attr_changes_only" => slant_lent(line, call.number(1, sheet), sheet)?,
         "fill_range" => {
             let columns = call.number(1, sheet)..call.number(2, sheet);
             let cell = call.cell(3, pen)?;
-            told(
+            say_outcome(
                 line.fill_range(columns, &cell, call.last_number(sheet)),
                 sheet,
             );
@@ -144,7 +144,7 @@ pub fn edit(
     Ok(true)
 }
 
-// Calls that stand together by what they take.
+// The remaining calls, grouped by the arguments that they take.
 fn edit_more(
     line: &mut Line,
     call: &Call<'_>,

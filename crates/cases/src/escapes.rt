@@ -24,14 +24,14 @@ fn hex_byte(high: u8, low: u8) -> Result<u8, Fault> {
     Ok(high * 16 + low)
 }
 
-// A byte, and then those that stand for themselves.
+// A byte, and then literal bytes.
 fn push_with(bytes: &mut Vec<u8>, byte: u8, after: &[u8]) -> Result<(), Fault> {
     bytes.push(byte)?;
     bytes.extend_from_slice(after)?;
     Ok(())
 }
 
-// A character by its number before a `}`, and then what stands for itself.
+// A character by its number before a `}`, and then literal text.
 fn push_character(bytes: &mut Vec<u8>, text: &str) -> Result<(), Fault> {
     let (digits, after) = text.split_once('}').ok_or(Fault::Escape)?;
     let number = u32::from_str_radix(digits, 16).ok().ok_or(Fault::Escape)?;
@@ -56,7 +56,7 @@ fn push_escape(bytes: &mut Vec<u8>, text: &str) -> Result<(), Fault> {
     }
 }
 
-// A text so many times, at most 9,999, before `>>`, and then what stands for itself.
+// `COUNT of TEXT` before `>>`: the text that many times, at most 9,999; and then literal text.
 fn push_copies(all: &mut String, text: &str) -> Result<(), Fault> {
     let (digits, after) = text.split_once(" of ").ok_or(Fault::Escape)?;
     let (copied, after) = after.split_once(">>").ok_or(Fault::Escape)?;
@@ -83,7 +83,7 @@ fn with_copies(alloc: Global, text: &str) -> Result<String, Fault> {
     Ok(all)
 }
 
-/// The bytes that a text stands for.
+/// The bytes of a text, with its escapes read.
 pub fn read(alloc: Global, text: &str) -> Result<Vec<u8>, Fault> {
     let whole = with_copies(alloc, text)?;
     let mut bytes = Vec::new(alloc);
@@ -106,7 +106,7 @@ pub fn read(alloc: Global, text: &str) -> Result<Vec<u8>, Fault> {
     }
 }
 
-/// The text that a text stands for.
+/// A text with its escapes read.
 pub fn read_text(alloc: Global, text: &str) -> Result<String, Fault> {
     match String::from_utf8(read(alloc, text)?) {
         Ok(read) => Ok(read),
@@ -135,7 +135,7 @@ fn push_byte(text: &mut String, byte: u8) -> Result<(), Fault> {
     Ok(())
 }
 
-/// A text that stands for these bytes.
+/// A text that reads as these bytes.
 pub fn written(alloc: Global, bytes: &[u8]) -> Result<String, Fault> {
     let mut text = String::new(alloc);
     if let Ok(whole) = str::from_utf8(bytes) {

@@ -18,16 +18,16 @@ pub enum Fault {
     /// A report could not be written.
     #[error("cannot write")]
     Write,
-    /// The rows stand under no heading that names a kind.
+    /// No heading above the rows names a kind.
     #[error("no such kind of case")]
     Kind,
-    /// No arrow stands between the arguments and the answer.
+    /// There is no arrow between the arguments and the answer.
     #[error("no ` => `")]
     Arrow,
     /// A kind takes another number of arguments.
     #[error("another number of arguments is wanted")]
     Columns,
-    /// A `\` is followed by nothing that it may stand before.
+    /// A `\` and what follows it begin no escape.
     #[error("no such escape")]
     Escape,
     /// A text was wanted, and these bytes are none.

@@ -117,7 +117,7 @@ pub fn framing(row: &Row<'_>, sheet: &mut Sheet) -> Result<(), Fault> {
 }
 
 /// `BYTES => EVENTS`: what a stream hands out, with a `/` after what each byte does.
-pub fn places(row: &Row<'_>, sheet: &mut Sheet) -> Result<(), Fault> {
+pub fn positions(row: &Row<'_>, sheet: &mut Sheet) -> Result<(), Fault> {
     let bytes = row.bytes(0)?;
     say_all(&mut Framer::new(row.alloc()), &bytes, Some("/"), sheet)
 }

@@ -19,7 +19,7 @@ pub struct Page {
 }
 
 /// Answers a refusal of memory as a word.
-pub fn told(outcome: Result<(), AllocError>, sheet: &mut Sheet) {
+pub fn say_outcome(outcome: Result<(), AllocError>, sheet: &mut Sheet) {
     sheet.word_if(outcome.is_err(), "refused");
 }
 

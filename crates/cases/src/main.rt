@@ -47,7 +47,7 @@ fn run_input<R: Input + AllocGlobal, W: Write>(
     out: &mut W,
 ) -> io::Result<()> {
     let text = io::read_to_string(rt.alloc(), rt.reader())?;
-    told(run::run(rt.alloc(), "input", text.as_str(), tally, out))
+    in_io(run::run(rt.alloc(), "input", text.as_str(), tally, out))
 }
 
 // Runs the cases of a file.
@@ -58,11 +58,11 @@ fn run_file<R: Files + AllocGlobal, W: Write>(
     out: &mut W,
 ) -> io::Result<()> {
     let text = fs::read_to_string(rt, file)?;
-    told(run::run(rt.alloc(), file, text.as_str(), tally, out))
+    in_io(run::run(rt.alloc(), file, text.as_str(), tally, out))
 }
 
 // A fault that ends the run.
-fn told(outcome: Result<(), Fault>) -> io::Result<()> {
+fn in_io(outcome: Result<(), Fault>) -> io::Result<()> {
     match outcome {
         Ok(()) => Ok(()),
         Err(Fault::Memory) => Err(io::Error::from(io::ErrorKind::OutOfMemory)),
@@ -83,7 +83,7 @@ fn run_all<R: Files + Input + Env + AllocGlobal, W: Write>(
     for file in &words {
         run_file(rt, file.as_str(), &mut tally, out)?;
     }
-    told(tally.report(out))?;
+    in_io(tally.report(out))?;
     Ok(tally.is_right())
 }
 

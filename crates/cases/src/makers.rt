@@ -9,9 +9,9 @@ use cell_line::Line;
 use std::mem;
 
 // The cells of the words from a position on.
-fn cells_from(call: &Call<'_>, place: usize, attrs: &CellAttributes) -> Result<Vec<Cell>, Fault> {
+fn cells_from(call: &Call<'_>, index: usize, attrs: &CellAttributes) -> Result<Vec<Cell>, Fault> {
     let mut cells = Vec::new(call.alloc());
-    for word in call.words_from(place) {
+    for word in call.words_from(index) {
         cells.push(cell_of(call.alloc(), word, attrs)?)?;
     }
     Ok(cells)
@@ -71,8 +71,8 @@ fn wrap(page: &mut Page, call: &Call<'_>, sheet: &mut Sheet) -> Result<(), Fault
 }
 
 // One of the lines that were cut off.
-fn picked(page: &Page, place: usize) -> Result<Line, Fault> {
-    match page.rows.get(place) {
+fn picked(page: &Page, index: usize) -> Result<Line, Fault> {
+    match page.rows.get(index) {
         Some(row) => Ok(row.try_clone()?),
         None => Err(Fault::Number),
     }
@@ -89,8 +89,8 @@ fn split_off(page: &mut Page, call: &Call<'_>, sheet: &mut Sheet) -> Result<(), 
 
 /// Makes a call that gives another line or other attributes: the makers of lines by their names; `pen WORDS` for the
 /// attributes of cells and texts that later calls are given; `columns_as_line START END`; `wrap WIDTH NUMBER`, which
-/// says the rows, and `split_off COLUMN NUMBER`, of whose lines `row PLACE` then makes one the line. Whether it is such
-/// a call.
+/// says the rows, and `split_off COLUMN NUMBER`, of whose lines `row PLACE` then makes one the line. Returns whether it
+/// is one of these calls.
 pub fn make(page: &mut Page, call: &Call<'_>, sheet: &mut Sheet) -> Result<bool, Fault> {
     match call.word(0) {
         "pen" => page.pen = pen_of(call)?,

@@ -1,4 +1,4 @@
-//! What is asked of a line.
+//! Queries of a line.
 use crate::call::Call;
 use crate::fault::Fault;
 use crate::sheet::Sheet;

@@ -33,23 +33,23 @@ impl<'a> Row<'a> {
     }
 
     /// A column as it is written, counted from 0; one that isn't there is empty.
-    pub fn column(&self, place: usize) -> &'a str {
-        self.columns.get(place).copied().unwrap_or("")
+    pub fn column(&self, index: usize) -> &'a str {
+        self.columns.get(index).copied().unwrap_or("")
     }
 
-    /// The bytes that a column stands for.
-    pub fn bytes(&self, place: usize) -> Result<Vec<u8>, Fault> {
-        escapes::read(self.alloc, self.column(place))
+    /// The bytes of a column, with its escapes read.
+    pub fn bytes(&self, index: usize) -> Result<Vec<u8>, Fault> {
+        escapes::read(self.alloc, self.column(index))
     }
 
-    /// The text that a column stands for.
-    pub fn text(&self, place: usize) -> Result<String, Fault> {
-        escapes::read_text(self.alloc, self.column(place))
+    /// The text of a column, with its escapes read.
+    pub fn text(&self, index: usize) -> Result<String, Fault> {
+        escapes::read_text(self.alloc, self.column(index))
     }
 
-    /// The first character that a column stands for.
-    pub fn character(&self, place: usize) -> Result<char, Fault> {
-        let text = self.text(place)?;
+    /// The first character of a column, with its escapes read.
+    pub fn character(&self, index: usize) -> Result<char, Fault> {
+        let text = self.text(index)?;
         text.as_str().chars().next().ok_or(Fault::Columns)
     }
 }

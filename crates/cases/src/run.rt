@@ -10,9 +10,9 @@ use std::io::Write;
 // What begins a case whose answer must differ from the one that is written.
 const MUST_DIFFER: &str = "differs:";
 
-/// Where a line stands.
+/// The position of a line.
 #[derive(Clone, Copy)]
-struct Place<'a> {
+struct SourceLine<'a> {
     file: &'a str,
     line: usize,
 }
@@ -24,7 +24,7 @@ struct Outcome {
     came: Vec<u8>,
 }
 
-// The bytes that the columns of an answer stand for, each with a bar before it but the first.
+// The bytes of the columns of an answer, with their escapes read, each but the first after a bar.
 fn expected_of(alloc: Global, text: &str) -> Result<Vec<u8>, Fault> {
     let mut sheet = Sheet::new(alloc);
     let mut is_first = true;
@@ -52,12 +52,12 @@ fn outcome_of(alloc: Global, kind: &str, line: &str) -> Result<Outcome, Fault> {
 // Writes what a case asks for and what came.
 fn write_outcome<W: Write>(
     alloc: Global,
-    place: Place<'_>,
+    source_line: SourceLine<'_>,
     kind: &str,
     outcome: &Outcome,
     out: &mut W,
 ) -> Result<(), Fault> {
-    let Place { file, line } = place;
+    let SourceLine { file, line } = source_line;
     let expected = escapes::written(alloc, &outcome.expected)?;
     let came = escapes::written(alloc, &outcome.came)?;
     let fault = if expected.as_str() == came.as_str() {
@@ -75,7 +75,7 @@ fn write_outcome<W: Write>(
 // Runs the case of a line, and writes it where it is not as it is said.
 fn run_case<W: Write>(
     alloc: Global,
-    place: Place<'_>,
+    source_line: SourceLine<'_>,
     kind: &str,
     line: &str,
     tally: &mut Tally,
@@ -89,25 +89,25 @@ fn run_case<W: Write>(
     if is_right {
         return Ok(());
     }
-    write_outcome(alloc, place, kind, &outcome, out)
+    write_outcome(alloc, source_line, kind, &outcome, out)
 }
 
 // Runs a line that holds a case, and says so where it can't be read.
 fn run_line<W: Write>(
     alloc: Global,
-    place: Place<'_>,
+    source_line: SourceLine<'_>,
     kind: &str,
     line: &str,
     tally: &mut Tally,
     out: &mut W,
 ) -> Result<(), Fault> {
-    match run_case(alloc, place, kind, line, tally, out) {
+    match run_case(alloc, source_line, kind, line, tally, out) {
         Ok(()) => Ok(()),
         Err(Fault::Memory) => Err(Fault::Memory),
         Err(Fault::Write) => Err(Fault::Write),
         Err(fault) => {
             tally.count_unread();
-            let Place { file, line } = place;
+            let SourceLine { file, line } = source_line;
             writeln!(out, "{file}:{line}: {fault}")?;
             Ok(())
         }
@@ -140,8 +140,8 @@ pub fn run<W: Write>(
             kind = named;
             continue;
         }
-        let place = Place { file, line: number };
-        run_line(alloc, place, kind, line, tally, out)?;
+        let source_line = SourceLine { file, line: number };
+        run_line(alloc, source_line, kind, line, tally, out)?;
     }
     Ok(())
 }

@@ -3,7 +3,7 @@ ghost use Rattle.std.specs.Prelude.{◌≤◌, length, IfOk};
 
 use crate::call::Call;
 use crate::fault::Fault;
-use crate::lines::told;
+use crate::lines::say_outcome;
 use crate::questions::say_cell;
 use crate::sheet::Sheet;
 use cell_base::{CellAttributes, ProgramWidth};
@@ -35,7 +35,7 @@ pub fn set(
 ) -> Result<(), Fault> {
     let columns = columns_of(line, call, sheet)?;
     if call.word(0) == "set_blanks" {
-        told(set_blanks(line, columns, pen), sheet);
+        say_outcome(set_blanks(line, columns, pen), sheet);
         return Ok(());
     }
     let text = call.text(3)?;

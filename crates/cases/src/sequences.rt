@@ -162,8 +162,8 @@ pub fn prefix(row: &Row<'_>, sheet: &mut Sheet) -> Result<(), Fault> {
 }
 
 // An entry: its number, or why there is none.
-fn say_entry(cracked: &Cracked, place: usize, sheet: &mut Sheet) {
-    match cracked.int(place) {
+fn say_entry(cracked: &Cracked, index: usize, sheet: &mut Sheet) {
+    match cracked.int(index) {
         Ok(value) => sheet.show(&value),
         Err(error) => {
             sheet.word("(");
@@ -171,9 +171,9 @@ fn say_entry(cracked: &Cracked, place: usize, sheet: &mut Sheet) {
             sheet.add(b")");
         }
     }
-    let number = cracked.int(place).ok();
-    let is_other = cracked.opt_int(place) != number
-        || cracked.get(place).is_some() != number.is_some();
+    let number = cracked.int(index).ok();
+    let is_other = cracked.opt_int(index) != number
+        || cracked.get(index).is_some() != number.is_some();
     sheet.word_if(is_other, "(which the entry isn't)");
 }
 
@@ -181,8 +181,8 @@ fn say_entry(cracked: &Cracked, place: usize, sheet: &mut Sheet) {
 fn say_entries(cracked: &Cracked, sheet: &mut Sheet) -> Result<(), Fault> {
     sheet.show(&cracked.len());
     sheet.column();
-    for place in 0..cracked.len() {
-        say_entry(cracked, place, sheet);
+    for index in 0..cracked.len() {
+        say_entry(cracked, index, sheet);
     }
     say_entry(cracked, cracked.len(), sheet);
     let copy = cracked.try_clone()?;
@@ -204,12 +204,12 @@ pub fn cracked(row: &Row<'_>, sheet: &mut Sheet) -> Result<(), Fault> {
 }
 
 // A position that was read, from 1 and from 0, or why there is none.
-fn say_place(read: Result<OneBased, CrackError>, sheet: &mut Sheet) {
+fn say_one_based(read: Result<OneBased, CrackError>, sheet: &mut Sheet) {
     match read {
-        Ok(place) => {
-            sheet.show(&place);
-            let from_zero = place.as_zero_based().checked_add(1);
-            sheet.word_if(from_zero != Some(place.as_one_based()), "(from 0 another)");
+        Ok(number) => {
+            sheet.show(&number);
+            let from_zero = number.as_zero_based().checked_add(1);
+            sheet.word_if(from_zero != Some(number.as_one_based()), "(from 0 another)");
         }
         Err(error) => sheet.show(&error),
     }
@@ -217,16 +217,16 @@ fn say_place(read: Result<OneBased, CrackError>, sheet: &mut Sheet) {
 
 /// `TOKEN => PLACE | PLACE | PLACE`: a line or column as a parameter has it, with 1 and with the greatest one for 0,
 /// and as one that may be absent (an empty column).
-pub fn place(row: &Row<'_>, sheet: &mut Sheet) -> Result<(), Fault> {
+pub fn one_based(row: &Row<'_>, sheet: &mut Sheet) -> Result<(), Fault> {
     if row.column(0).is_empty() {
-        say_place(OneBased::from_optional_esc_param(None), sheet);
+        say_one_based(OneBased::from_optional_esc_param(None), sheet);
         return Ok(());
     }
     let token = token_of(row.alloc(), row.column(0))?;
-    say_place(OneBased::from_esc_param(&token), sheet);
+    say_one_based(OneBased::from_esc_param(&token), sheet);
     sheet.column();
-    say_place(OneBased::from_esc_param_with_big_default(&token), sheet);
+    say_one_based(OneBased::from_esc_param_with_big_default(&token), sheet);
     sheet.column();
-    say_place(OneBased::from_optional_esc_param(Some(&token)), sheet);
+    say_one_based(OneBased::from_optional_esc_param(Some(&token)), sheet);
     Ok(())
 }

@@ -21,8 +21,8 @@ fn row_of(word: &str) -> Result<isize, Fault> {
 fn step(sequence: &mut Plain, call: &Call<'_>, sheet: &mut Sheet) -> Result<(), Fault> {
     match call.word(0) {
         "move_to" => {
-            let place = (call.number(1, sheet), row_of(call.word(2))?);
-            sequence.move_to(place)?;
+            let source_line = (call.number(1, sheet), row_of(call.word(2))?);
+            sequence.move_to(source_line)?;
         }
         "cursor" => {
             let (column, row) = sequence.current_cursor_position();

@@ -4,7 +4,7 @@ use std::alloc::Global;
 use std::fmt::{Debug, Display};
 
 /// The columns of an answer, with ` | ` between them, and the words of each with a space between them. What goes wrong
-/// while it is written is kept, and told at its end.
+/// while it is written is kept, and returned at its end.
 #[derive(Drop)]
 pub struct Sheet {
     alloc: Global,

@@ -83,7 +83,7 @@ impl Way {
         }
     }
 
-    // Whether the bytes have these actions, handed in as two pieces, the first with so many bytes.
+    // Whether the bytes have these actions, handed in as two chunks, the first of `count` bytes.
     fn is_read_in_two(
         self,
         alloc: Global,
@@ -181,7 +181,7 @@ fn push_piece(alloc: Global, piece: &str, all: &mut Vec<Action>) -> Result<(), F
     }
 }
 
-// The actions of the pieces of a column, each read by itself, one after the other.
+// The actions of the parts of a column between ` + `, each read by itself, in order.
 fn list_of(row: &Row<'_>) -> Result<Vec<Action>, Fault> {
     let mut all = Vec::new(row.alloc());
     for piece in row.column(0).split(" + ") {

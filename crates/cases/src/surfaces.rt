@@ -34,8 +34,8 @@ fn surface_of(alloc: Global, width: &str, height: &str) -> Result<Plain, Fault> 
 // Texts that are added together.
 fn texts_of(call: &Call<'_>) -> Result<Vec<Change>, Fault> {
     let mut texts = Vec::new(call.alloc());
-    for place in 1..1 + call.words_from(1).len() {
-        texts.push(Change::Text(call.text(place)?))?;
+    for source_line in 1..1 + call.words_from(1).len() {
+        texts.push(Change::Text(call.text(source_line)?))?;
     }
     Ok(texts)
 }
@@ -146,7 +146,7 @@ fn say_sizes(surface: &Plain, sheet: &mut Sheet) {
     }
 }
 
-/// What is asked of a surface by itself; whether the step asks.
+/// Answers a query of a surface by itself; returns whether the step is a query.
 pub fn ask_surface(surface: &Plain, call: &Call<'_>, sheet: &mut Sheet) -> Result<bool, Fault> {
     match call.word(0) {
         "rows" => sheet.word(surface.screen_chars_to_string()?.as_str()),
@@ -171,7 +171,7 @@ pub fn ask_surface(surface: &Plain, call: &Call<'_>, sheet: &mut Sheet) -> Resul
     Ok(true)
 }
 
-// What is asked of the surface, or of both; whether the step asks.
+// Answers a query of the surface, or of both; returns whether the step is a query.
 fn ask(stage: &Stage, call: &Call<'_>, sheet: &mut Sheet) -> Result<bool, Fault> {
     match call.word(0) {
         "answer" => sheet.show(&stage.answer),

@@ -37,7 +37,7 @@ fn change(pair: &mut Pair, call: &Call<'_>, sheet: &mut Sheet) -> Result<bool, F
     Ok(true)
 }
 
-// What is asked of the terminal, or of its surface.
+// Answers a query of the terminal, or of its surface.
 fn ask(pair: &mut Pair, call: &Call<'_>, sheet: &mut Sheet) -> Result<(), Fault> {
     match call.word(0) {
         "replies" => {
@@ -56,7 +56,7 @@ fn ask(pair: &mut Pair, call: &Call<'_>, sheet: &mut Sheet) -> Result<(), Fault>
     Ok(())
 }
 
-// A piece is fed, or a call is made.
+// Feeds a chunk, or makes a call.
 fn take_step(alloc: Global, pair: &mut Pair, step: &str, sheet: &mut Sheet) -> Result<(), Fault> {
     let inner = step
         .strip_prefix('<')
@@ -76,8 +76,8 @@ fn take_step(alloc: Global, pair: &mut Pair, step: &str, sheet: &mut Sheet) -> R
     Ok(())
 }
 
-/// `WIDTH HEIGHT | STEPS => ANSWERS`: what a new terminal answers after pieces and calls with ` + ` between them; a
-/// call stands in `<>`.
+/// `WIDTH HEIGHT | STEPS => ANSWERS`: what a new terminal answers after chunks and calls with ` + ` between them; a
+/// call is in `<>`.
 pub fn terminal(row: &Row<'_>, sheet: &mut Sheet) -> Result<(), Fault> {
     let mut pair = Pair::new(row.alloc(), row.column(0))?;
     for step in row.column(1).split(" + ") {
@@ -86,7 +86,7 @@ pub fn terminal(row: &Row<'_>, sheet: &mut Sheet) -> Result<(), Fault> {
     Ok(())
 }
 
-/// Feeds pieces of one byte.
+/// Feeds chunks of one byte.
 pub fn feed_each(terminal: &mut Plain, bytes: &[u8]) -> Result<(), Fault> {
     for byte in bytes {
         terminal.feed(&[*byte])?;
@@ -103,7 +103,7 @@ pub struct Seen {
 }
 
 impl Seen {
-    // The end of what was fed is looked at.
+    // A look after all that the terminal was fed.
     fn settled(mut terminal: Plain) -> Result<Seen, Fault> {
         terminal.settle()?;
         let replies = terminal.take_replies();
@@ -115,7 +115,7 @@ impl Seen {
         })
     }
 
-    /// After two pieces, the first with so many bytes.
+    /// After two chunks, the first of `count` bytes.
     pub fn in_two(alloc: Global, size: &str, bytes: &[u8], count: usize) -> Result<Seen, Fault> {
         let (prefix, after) = bytes.split_at(count.min(bytes.len()));
         let mut terminal = terminal_of(alloc, size)?;
@@ -124,7 +124,7 @@ impl Seen {
         Seen::settled(terminal)
     }
 
-    /// After pieces of one byte.
+    /// After chunks of one byte.
     pub fn byte_by_byte(alloc: Global, size: &str, bytes: &[u8]) -> Result<Seen, Fault> {
         let mut terminal = terminal_of(alloc, size)?;
         feed_each(&mut terminal, bytes)?;
@@ -175,7 +175,12 @@ pub fn say_torn(
 
 // Says in which pieces the bytes lead to something else on a terminal of this size, or that its viewer does; whether
 // neither is so.
-fn say_apart(alloc: Global, size: &str, bytes: &[u8], sheet: &mut Sheet) -> Result<bool, Fault> {
+fn say_independent(
+    alloc: Global,
+    size: &str,
+    bytes: &[u8],
+    sheet: &mut Sheet,
+) -> Result<bool, Fault> {
     let whole = Seen::in_two(alloc, size, bytes, 0)?;
     let is_viewed = whole.is_viewed(alloc, size)?;
     sheet.word_if(!is_viewed, "but another at a viewer");
@@ -189,7 +194,7 @@ pub fn torn(row: &Row<'_>, sheet: &mut Sheet) -> Result<(), Fault> {
     let bytes = row.bytes(0)?;
     let mut all_same = true;
     for size in ["1 1", "1 2", "3 1", "4 3", "8 1"] {
-        if !say_apart(row.alloc(), size, &bytes, sheet)? {
+        if !say_independent(row.alloc(), size, &bytes, sheet)? {
             sheet.word(size);
             all_same = false;
         }

@@ -55,7 +55,7 @@ impl Pair {
         Ok(Pair { terminal, viewer })
     }
 
-    /// Both become so many columns wide and rows high.
+    /// Both become `width` columns wide and `height` rows high.
     pub fn resize(&mut self, width: usize, height: usize) -> Result<(), Fault>
         requires columns { 0 < width }
         requires width { width ≤ 4096 }
@@ -113,7 +113,7 @@ impl Pair {
     }
 }
 
-// Gives its bytes, at most so many at a time.
+// Gives its bytes, at most `most` at a time.
 #[derive(Drop)]
 struct Pieces<'a> {
     bytes: &'a [u8],
@@ -127,7 +127,7 @@ impl Read for Pieces<'_> {
     }
 }
 
-// Takes at most so many bytes at a time.
+// Takes at most `most` bytes at a time.
 #[derive(Drop)]
 struct Sink {
     text: Vec<u8>,
@@ -146,7 +146,7 @@ impl Write for Sink {
     }
 }
 
-// What `run` writes for the row's input, where at most so many bytes are read and written at a time.
+// What `run` writes for the row's input, where it reads and writes at most `most` bytes at a time.
 fn written(row: &Row<'_>, most: usize) -> Result<Vec<u8>, Fault> {
     let (width, height) = row.column(0).split_once(' ').ok_or(Fault::Number)?;
     let width = number_up_to(4096, width)?;

@@ -100,44 +100,44 @@ western_width c s h = letter_width c 1 s (western_high c h) (one_column c (kind 
 within : (c lo hi : ℕ) → is_in_range lo hi c ≡ true → (lo ≤ c) × (c ≤ hi)
 within c lo hi h = let p = and_parts (nat_le lo c) (nat_le c hi) h in (leb-true lo c p.0, leb-true c hi p.1)
 
-kana_apart : (c : ℕ) → 0x3041 ≤ c → c ≤ 0x3096 → is_independent c ≡ true
+kana_independent : (c : ℕ) → 0x3041 ≤ c → c ≤ 0x3096 → is_independent c ≡ true
 unfolding is_independent
-kana_apart c l h = grind (arith, nat_tests)
+kana_independent c l h = grind (arith, nat_tests)
 
-katakana_apart : (c : ℕ) → 0x30A0 ≤ c → c ≤ 0x30FF → is_independent c ≡ true
+katakana_independent : (c : ℕ) → 0x30A0 ≤ c → c ≤ 0x30FF → is_independent c ≡ true
 unfolding is_independent
-katakana_apart c l h = grind (arith, nat_tests)
+katakana_independent c l h = grind (arith, nat_tests)
 
-ideograph_apart : (c : ℕ) → 0x4E00 ≤ c → c ≤ 0x9FFF → is_independent c ≡ true
+ideograph_independent : (c : ℕ) → 0x4E00 ≤ c → c ≤ 0x9FFF → is_independent c ≡ true
 unfolding is_independent
-ideograph_apart c l h = grind (arith, nat_tests)
+ideograph_independent c l h = grind (arith, nat_tests)
 
-syllable_apart : (c : ℕ) → 0xAC00 ≤ c → c ≤ 0xD7A3 → is_independent c ≡ true
+syllable_independent : (c : ℕ) → 0xAC00 ≤ c → c ≤ 0xD7A3 → is_independent c ≡ true
 unfolding is_independent
-syllable_apart c l h = grind (arith, nat_tests)
+syllable_independent c l h = grind (arith, nat_tests)
 
-latin_apart : (c : ℕ) → 0xC0 ≤ c → c ≤ 0x2AF → is_independent c ≡ true
+latin_independent : (c : ℕ) → 0xC0 ≤ c → c ≤ 0x2AF → is_independent c ≡ true
 unfolding is_independent
-latin_apart c l h = grind (arith, nat_tests)
+latin_independent c l h = grind (arith, nat_tests)
 
-cyrillic_apart : (c : ℕ) → 0x400 ≤ c → c ≤ 0x481 → is_independent c ≡ true
+cyrillic_independent : (c : ℕ) → 0x400 ≤ c → c ≤ 0x481 → is_independent c ≡ true
 unfolding is_independent
-cyrillic_apart c l h = grind (arith, nat_tests)
+cyrillic_independent c l h = grind (arith, nat_tests)
 
-pub eastern_apart : (c : ℕ) → is_eastern_letter c ≡ true → is_independent c ≡ true
-eastern_apart c h = elim (or_cases (is_in_range 0x3041 0x3096 c || is_in_range 0x30A0 0x30FF c || is_in_range 0x4E00 0x9FFF c) (is_in_range 0xAC00 0xD7A3 c) h) [
+pub eastern_independent : (c : ℕ) → is_eastern_letter c ≡ true → is_independent c ≡ true
+eastern_independent c h = elim (or_cases (is_in_range 0x3041 0x3096 c || is_in_range 0x30A0 0x30FF c || is_in_range 0x4E00 0x9FFF c) (is_in_range 0xAC00 0xD7A3 c) h) [
   | inl p ↦ elim (or_cases (is_in_range 0x3041 0x3096 c || is_in_range 0x30A0 0x30FF c) (is_in_range 0x4E00 0x9FFF c) p) [
     | inl q ↦ elim (or_cases (is_in_range 0x3041 0x3096 c) (is_in_range 0x30A0 0x30FF c) q) [
-      | inl r ↦ let b = within c 0x3041 0x3096 r in kana_apart c b.0 b.1
-      | inr r ↦ let b = within c 0x30A0 0x30FF r in katakana_apart c b.0 b.1
+      | inl r ↦ let b = within c 0x3041 0x3096 r in kana_independent c b.0 b.1
+      | inr r ↦ let b = within c 0x30A0 0x30FF r in katakana_independent c b.0 b.1
     ]
-    | inr q ↦ let b = within c 0x4E00 0x9FFF q in ideograph_apart c b.0 b.1
+    | inr q ↦ let b = within c 0x4E00 0x9FFF q in ideograph_independent c b.0 b.1
   ]
-  | inr p ↦ let b = within c 0xAC00 0xD7A3 p in syllable_apart c b.0 b.1
+  | inr p ↦ let b = within c 0xAC00 0xD7A3 p in syllable_independent c b.0 b.1
 ]
 
-pub western_apart : (c : ℕ) → is_western_letter c ≡ true → is_independent c ≡ true
-western_apart c h = elim (or_cases (is_in_range 0xC0 0x2AF c) (is_in_range 0x400 0x481 c) h) [
-  | inl p ↦ let b = within c 0xC0 0x2AF p in latin_apart c b.0 b.1
-  | inr p ↦ let b = within c 0x400 0x481 p in cyrillic_apart c b.0 b.1
+pub western_independent : (c : ℕ) → is_western_letter c ≡ true → is_independent c ≡ true
+western_independent c h = elim (or_cases (is_in_range 0xC0 0x2AF c) (is_in_range 0x400 0x481 c) h) [
+  | inl p ↦ let b = within c 0xC0 0x2AF p in latin_independent c b.0 b.1
+  | inr p ↦ let b = within c 0x400 0x481 p in cyrillic_independent c b.0 b.1
 ]

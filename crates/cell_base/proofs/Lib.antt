@@ -9,6 +9,6 @@ pub mod TextsReading
 pub mod PlainClusters
 pub mod NarrowAscii
 pub mod SingleWidths
-mod LookLaws
+mod RenditionLaws
 pub mod LawfulScreens
 pub mod RowLemmas

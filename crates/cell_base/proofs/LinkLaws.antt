@@ -17,7 +17,7 @@ use Rattle.std.proofs.lemmas.List.Splits.{join_with_byte-slice_split, length-sli
 use Rattle.cell_base.specs.Link.{Link, Param, texts_of}
 use Rattle.cell_base.specs.LinkText.{param_text, params_text, link_text, text_of_link, pieces, is_param, param_of, by_key, param_pieces, params_of, texts_reading, link_reading, is_value_text, is_key_text, is_writable, is_empty_link, IsReadBack}
 use Rattle.cell_base.specs.declared.link_error.LinkError.TheVariants.{Utf8, Params}
-use Rattle.cell_base.proofs.Pieces.{Lacks, EachLacks, all_joined, all_front, all_back, pieces_lack, pieces_more, pieces_joined, joined_lacks, each_lacks, utf8_around, utf8_before, utf8_after, joined_utf8, each_utf8, cut_joined, before_lacks, before_is, after_is, has_byte}
+use Rattle.cell_base.proofs.Pieces.{Lacks, EachLacks, all_joined, all_prefix, all_back, pieces_lack, pieces_more, pieces_joined, joined_lacks, each_lacks, utf8_around, utf8_before, utf8_after, joined_utf8, each_utf8, cut_joined, before_lacks, before_is, after_is, has_byte}
 use Rattle.cell_base.proofs.TextsReading.{reading_by}
 use Rattle.cell_base.proofs.KeyOrder.{put, fold_each, sorted_by_key, by_key_sorted}
 
@@ -47,7 +47,7 @@ param_cut t h c s u =
     let c' : Lacks 58 (k ++ 61 ∷ v) = subst (Lacks 58) (sym e) c in
     let s' : Lacks 59 (k ++ 61 ∷ v) = subst (Lacks 59) (sym e) s in
     let u' : IsUtf8 (k ++ 61 ∷ v) = subst IsUtf8 (sym e) u in (
-      record { no_equals = before_lacks 61 t; no_colon = all_front _ k (61 ∷ v) c'; no_semicolon = all_front _ k (61 ∷ v) s'; utf8 = utf8_before 61 k v (omega arith) u' },
+      record { no_equals = before_lacks 61 t; no_colon = all_prefix _ k (61 ∷ v) c'; no_semicolon = all_prefix _ k (61 ∷ v) s'; utf8 = utf8_before 61 k v (omega arith) u' },
       record { no_colon = (all_back _ k (61 ∷ v) c').1; no_semicolon = (all_back _ k (61 ∷ v) s').1; utf8 = utf8_after 61 k v (omega arith) u' },
     )
 

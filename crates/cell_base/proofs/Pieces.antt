@@ -25,9 +25,9 @@ module _ {X : Type 0} (P : X → Type 0) where
   all_joined [] ys h k = k
   all_joined (x ∷ xs) ys h k = (h.0, all_joined xs ys h.1 k)
 
-  pub all_front : (xs ys : List X) → AllByRecursion P (xs ++ ys) → AllByRecursion P xs
-  all_front [] ys h = tt
-  all_front (x ∷ xs) ys h = (h.0, all_front xs ys h.1)
+  pub all_prefix : (xs ys : List X) → AllByRecursion P (xs ++ ys) → AllByRecursion P xs
+  all_prefix [] ys h = tt
+  all_prefix (x ∷ xs) ys h = (h.0, all_prefix xs ys h.1)
 
   pub all_back : (xs ys : List X) → AllByRecursion P (xs ++ ys) → AllByRecursion P ys
   all_back [] ys h = h
@@ -74,7 +74,7 @@ each_lacks d c [] h = tt
 each_lacks d c (t ∷ []) h = (h, tt)
 each_lacks d c (t ∷ u ∷ ts) h =
     let P : ℕ → Type 0 = λ b. eqb b d ≡ false in
-    (all_front P t (c ∷ join_with_byte c (u ∷ ts)) h, each_lacks d c (u ∷ ts) (all_back P t (c ∷ join_with_byte c (u ∷ ts)) h).1)
+    (all_prefix P t (c ∷ join_with_byte c (u ∷ ts)) h, each_lacks d c (u ∷ ts) (all_back P t (c ∷ join_with_byte c (u ∷ ts)) h).1)
 
 -- ---- UTF-8
 

@@ -6,7 +6,7 @@ use Rattle.std.specs.List.{list_all, prefix_len}
 use Rattle.std.proofs.lemmas.Bool.{and_parts}
 use Rattle.unicode_segmentation.specs.Grapheme.{graphemes}
 use Rattle.text_clusters.specs.Plain.{is_printable, each}
-use Rattle.text_clusters.proofs.PlainLemmas.{one_alone, printable_front, whole_run}
+use Rattle.text_clusters.proofs.PlainLemmas.{one_alone, printable_prefix, whole_run}
 use Rattle.text_clusters.proofs.TextLemmas.{same_at_clusters}
 use Rattle.std.specs.Str.Lossy.{replacement_bytes}
 use Rattle.std.proofs.lemmas.List.{take_all}
@@ -35,7 +35,7 @@ read_each (c ∷ prefix) gs h =
 pub plain_alone : (text : List ℕ) → prefix_len is_printable text ≡ length text → clusters text ≡ each text
 plain_alone text h =
     let all : take (length text) text ≡ text = take_all (length text) text (omega arith) in
-    let printable : list_all is_printable text ≡ true = ap (list_all is_printable) (sym all) ∙ printable_front (length text) text (omega arith) in
+    let printable : list_all is_printable text ≡ true = ap (list_all is_printable) (sym all) ∙ printable_prefix (length text) text (omega arith) in
     ap (map read_cluster) (whole_run text h ∙ sym (append-nil (each text))) ∙ read_each text [] printable ∙ append-nil (each text)
 
 -- one byte below 128 is ASCII

@@ -10,7 +10,7 @@ pub record CellContent : Type 0 where
   pub width : ℕ
   pub attributes : Attributes
 
--- what stands in no cell as it is: the empty text, a single control, and CR LF
+-- the texts that a cell replaces by a space: the empty text, a single control, and CR LF
 abbrev pub shows_as_space : List ℕ → Bool
 shows_as_space [] = true
 shows_as_space (a ∷ []) = is_ascii_control a
@@ -20,7 +20,7 @@ shows_as_space (a ∷ b ∷ c ∷ rest) = false
 abbrev pub cell_text : List ℕ → List ℕ
 cell_text text = if shows_as_space text then space else text
 
--- the cell of a text of some columns: none counts as one, and a space in place of the text takes one
+-- the cell of a text of `width` columns: 0 counts as 1, and a space in place of the text takes one
 abbrev pub cell_of : List ℕ → ℕ → Attributes → CellContent
 cell_of text width attributes =
     record { text = cell_text text; width = if shows_as_space text then 1 else max 1 width; attributes = attributes }
@@ -28,8 +28,8 @@ cell_of text width attributes =
 abbrev pub blank_cell : Attributes → CellContent
 blank_cell attributes = record { text = space; width = 1; attributes = attributes }
 
--- Cells read from the left as a row. The cell that is stored after a wide one isn't looked at, and a wide cell with
--- none after it counts as a blank with its attributes.
+-- Cells read from the left as a row. The cell stored after a wide one is ignored, and a wide cell at the end of the
+-- list counts as a blank with its attributes.
 abbrev pub row_of_cells : List CellContent → Row
 row_of_cells [] = []
 row_of_cells (cell ∷ []) =

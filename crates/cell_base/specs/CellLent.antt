@@ -1,4 +1,4 @@
--- What becomes of a cell whose attributes were lent.
+-- The cell after a mutable borrow of its attributes.
 use Rattle.std.specs.Borrow.{Lends, MutBor, Fml}
 use Rattle.cell_base.specs.Attributes.{Attributes}
 use Rattle.cell_base.specs.CellContent.{CellContent}

@@ -1,4 +1,4 @@
--- The bytes that a cell's text stands for, its columns, and the cell with it.
+-- The bytes of a cell's text, its columns, and the cell with it.
 use Rattle.std.specs.Prelude.{ℕ, Bool, List, take, if◌then◌else◌}
 use Rattle.std.specs.String.{string_bytes}
 use Rattle.cell_base.specs.Attributes.{Attributes}

@@ -12,7 +12,7 @@ use Rattle.unicode_width.proofs.Computing.{unicode_width}
 abbrev pub is_cluster : List ℕ → Bool
 is_cluster text = length (graphemes true text) == 1
 
--- a cluster as it stands in a cell: what by itself would be cut further is read as U+FFFD
+-- a cluster as a cell holds it: a text that by itself isn't one cluster is read as U+FFFD
 abbrev pub read_cluster : List ℕ → List ℕ
 read_cluster text = if is_cluster text then text else replacement_bytes
 

@@ -13,7 +13,7 @@ use Rattle.cell_base.specs.declared.color.ColorAttribute.TheVariants.{TrueColorW
 use Rattle.cell_base.specs.declared.color.ColorAttribute.TheVariants.{PaletteIndex as palette_attribute}
 use Rattle.cell_base.specs.declared.color.ColorAttribute.TheVariants.{Default as default_attribute}
 
--- the place of a named colour in the palette
+-- the palette index of a named colour
 abbrev pub number_of : AnsiColor → ℕ
 number_of Black = 0
 number_of Maroon = 1

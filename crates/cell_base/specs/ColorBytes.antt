@@ -1,4 +1,4 @@
--- A colour by its parts: its kind, channels and index, of which those are 0 that its kind doesn't use.
+-- A colour by its parts: its kind, channels and index. The parts that its kind doesn't use are 0.
 use Rattle.std.specs.Prelude.{ℕ}
 use Rattle.cell_base.specs.declared.color.SrgbaTuple.{SrgbaTuple}
 use Rattle.cell_base.specs.declared.color.ColorAttribute.{ColorAttribute}
@@ -14,7 +14,7 @@ kind_byte Indexed = 1
 kind_byte Direct = 2
 kind_byte DirectOrIndexed = 3
 
--- the colour that has these parts, of which some may be left over
+-- the colour that has these parts; it ignores the parts that its kind doesn't use
 abbrev pub color_with : ColorKind → SrgbaTuple → ℕ → ColorAttribute
 color_with Unset channels index = Default
 color_with Indexed channels index = PaletteIndex index

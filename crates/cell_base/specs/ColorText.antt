@@ -52,7 +52,7 @@ three (Some red) (Some green) None = None
 three (Some red) None blue = None
 three None green blue = None
 
--- what follows `#`: three channels of as many digits each, 1 to 4
+-- the text after `#`: three channels of the same number of digits, 1 to 4
 abbrev pub sharp_reading : List ℕ → Option (ℕ × ℕ × ℕ)
 sharp_reading digits =
     let n = length digits / 3 in
@@ -60,7 +60,7 @@ sharp_reading digits =
     then three (upper_bits (take n digits)) (upper_bits (take n (drop n digits))) (upper_bits (drop (2 * n) digits))
     else None
 
--- what follows `rgb:`: three parts joined by `/`
+-- the text after `rgb:`: three parts joined by `/`
 abbrev pub has_slash : List ℕ → Bool
 has_slash text = nat_lt (position_or_len (λ b. b == 47) text) (length text)
 

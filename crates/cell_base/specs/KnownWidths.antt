@@ -1,4 +1,4 @@
--- Letters of which it is known how many columns each takes by itself.
+-- Letters whose columns are known: how many each takes by itself.
 use Rattle.std.specs.Prelude.{ℕ, Bool, ◌||◌}
 use Rattle.std.specs.Int.{is_in_range}
 

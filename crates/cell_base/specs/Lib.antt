@@ -3,8 +3,8 @@ pub mod AttributeValue
 pub mod AttributeValueOf
 pub mod Attributes
 pub mod AttributesView
-pub mod LookView
-pub mod LookBytes
+pub mod RenditionView
+pub mod RenditionBytes
 pub mod ColorBytes
 pub mod Color
 pub mod ColorText

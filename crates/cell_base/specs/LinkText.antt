@@ -44,7 +44,7 @@ param_of text = (before_first (λ b. b == 61) text, after_first (λ b. b == 61) 
 abbrev pub put_param : List Param → Param → List Param
 put_param ps p = insert_entry (slice_cmp nat_cmp) ps p.0 p.1
 
--- the parameters in the order of their keys; of equal keys the last one's value stands
+-- the parameters in the order of their keys; of equal keys the last one's value counts
 abbrev pub by_key : List Param → List Param
 by_key ps = fold put_param [] ps
 
@@ -64,18 +64,18 @@ texts_reading params uri =
     Ok (Some (record { params = params_of params; uri = uri; implicit = false }))
     else Err Params) else Err Utf8)
 
--- the link of the parts of an OSC 8, of which the first isn't looked at; those from the third on are the URI, joined by
--- `;`
+-- the link of the parts of an OSC 8: the first part is ignored, the second holds the parameters, and the parts from the
+-- third on are the URI, joined by `;`
 unfoldable pub link_reading : List (List ℕ) → Result (Option Link) LinkError
 link_reading (_ ∷ params ∷ uri ∷ more) = texts_reading params (join_with_byte 59 (uri ∷ more))
 link_reading _ = Err PartCount
 
--- r is the reading, but that want of memory may stand in place of what it reads, never in place of a refusal
+-- r is the reading, except that r may be `Err Memory` where the reading is `Ok`, never where it is a refusal
 abbrev pub IsUnlessMemory : Result (Option Link) LinkError → Result (Option Link) LinkError → Type 0
 IsUnlessMemory reading r = MatchResult reading (λ link. (r ≡ Ok link) ⊎ (r ≡ Err Memory)) (λ e. r ≡ Err e)
 
--- whether a text stands in a link's text as it is: a value where it has no `:` and no `;`, a key where it has no `=`
--- either
+-- whether a link's text can hold a text unchanged: as a value where it has no `:` and no `;`, as a key where it has no
+-- `=` either
 abbrev pub is_value_text : List ℕ → Bool
 is_value_text text = not (list_any (λ b. b == 58) text) && not (list_any (λ b. b == 59) text)
 
@@ -89,6 +89,6 @@ is_writable p = is_key_text p.0 && is_value_text p.1
 abbrev pub is_empty_link : Link → Bool
 is_empty_link link = length link.params == 0 && length link.uri == 0
 
--- what the link's text reads as, from its parts between `;`, is the link
+-- the link's text, from its parts between `;`, reads back as the link
 abbrev pub IsReadBack : Link → Type 0
 IsReadBack link = link_reading (pieces 59 (link_text link)) ≡ Ok (Some link)

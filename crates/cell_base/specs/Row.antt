@@ -3,7 +3,7 @@ use Rattle.std.specs.Prelude.{ℕ, ◌+◌, Bool, List, [], ◌∷◌, ◌++◌,
 use Rattle.std.specs.List.{flat_map}
 use Rattle.cell_base.specs.Attributes.{Attributes, plain}
 
--- A column has a text of its own, or it is the left or the right half of a wide text, which stands at the left half.
+-- A column has a text of its own, or it is the left or the right half of a wide text, which the left half holds.
 pub data Column : Type 0 where
   Narrow : List ℕ → Attributes → Column
   LeftHalf : List ℕ → Attributes → Column
@@ -38,7 +38,7 @@ right_alone (RightHalf attributes) = blank attributes
 right_alone (Narrow text attributes) = Narrow text attributes
 right_alone (LeftHalf text attributes) = LeftHalf text attributes
 
--- columns that were cut off from what followed them, and from what stood before them
+-- columns that were cut off from the columns after them, and from the columns before them
 abbrev pub closed_end : Row → Row
 closed_end [] = []
 closed_end (column ∷ []) = left_alone column ∷ []
@@ -52,7 +52,7 @@ closed_start (column ∷ row) = right_alone column ∷ row
 abbrev pub set_columns : Row → ℕ → Row → Row
 set_columns row at columns = closed_end (take at row) ++ columns ++ closed_start (drop (at + length columns) row)
 
--- what is seen of a column, and of a row
+-- the text that a column shows, and a row
 abbrev pub column_text : Column → List ℕ
 column_text (Narrow text attributes) = text
 column_text (LeftHalf text attributes) = text

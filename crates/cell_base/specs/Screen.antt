@@ -17,7 +17,7 @@ pub record Screen : Type 0 where
   pub pen : Attributes
   pub title : List ℕ
 
--- what each screen keeps
+-- the invariant of every screen
 pub record IsScreen (screen : Screen) : Type 0 where
   pub wide_enough : 0 < screen.width
   pub even : All (λ row. length row ≡ screen.width) screen.rows
@@ -40,7 +40,7 @@ new_screen width height =
       title = [];
     }
 
--- the first row goes, and a plain one comes below
+-- drops the first row, and adds a plain one below
 abbrev pub scrolled : Screen → Screen
 scrolled screen = record screen { rows = drop 1 screen.rows ++ plain_row screen.width ∷ [] }
 
@@ -66,7 +66,7 @@ cluster_columns width_of screen cluster =
     let narrow_screen = screen.width == 1 in
     columns_of (if wide && narrow_screen then space else cluster) (wide && nat_lt 1 screen.width) screen.pen
 
--- Puts a cluster at the cursor. What doesn't fit in the row goes to the start of the next one.
+-- Puts a cluster at the cursor. A cluster that doesn't fit in the row goes to the start of the next one.
 abbrev pub put : (List ℕ → ℕ) → Screen → List ℕ → Screen
 put width_of screen cluster =
     let columns = cluster_columns width_of screen cluster in

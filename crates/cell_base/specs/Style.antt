@@ -1,4 +1,4 @@
--- What the plain values say as yes or no.
+-- The plain values as yes or no.
 use Rattle.std.specs.Prelude.{Bool, true, false}
 use Rattle.cell_base.specs.declared.attributes.Underline.{Underline}
 use Rattle.cell_base.specs.declared.attributes.Underline.TheVariants.{None}

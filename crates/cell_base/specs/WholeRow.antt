@@ -1,8 +1,8 @@
--- Rows whose halves stand in pairs.
+-- Rows whose halves come in pairs.
 use Rattle.std.specs.Prelude.{◌≡◌, ⊤, [], ◌∷◌}
 use Rattle.cell_base.specs.Row.{Row, Narrow, LeftHalf, RightHalf}
 
--- after each left half stands a right half with its attributes, and no right half stands elsewhere
+-- after each left half comes a right half with its attributes, and there is no other right half
 abbrev pub IsWhole : Row → Type 0
 IsWhole [] = ⊤
 IsWhole (Narrow text attributes ∷ row) = IsWhole row

@@ -8,7 +8,7 @@ use crate::hyperlink::Hyperlink;
 use std::alloc::AllocError;
 use std::rc::Rc;
 
-/// A change of one attribute: what the setter of that name is given.
+/// A change of one attribute: each variant holds the argument of the setter of its name.
 #[derive(Debug, Drop, PartialEq, Eq)]
 pub enum AttributeChange {
     Intensity(Intensity),

@@ -57,7 +57,7 @@ impl From<Blink> for bool {
     }
 }
 
-/// Where a text stands on its line.
+/// The vertical alignment of a text on its line.
 #[derive(Debug, Clone, Copy, PartialEq, Eq)]
 pub enum VerticalAlign {
     BaseLine,

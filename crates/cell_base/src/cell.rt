@@ -16,7 +16,7 @@ use std::alloc::{AllocError, Global};
 use std::marker::Model;
 
 /// A cell: a text, which is a space or one cluster, the one or two columns that it takes, and its
-/// attributes. The empty text, a single C0 control or DEL, and CR LF stand as a space of width 1.
+/// attributes. It holds a space of width 1 for the empty text, a single C0 control or DEL, and CR LF.
 #[derive(Debug, Drop)]
 pub struct Cell {
     text: CellText,
@@ -130,8 +130,8 @@ impl Cell {
         self.set(CellText::of_ascii(b' '), attrs)
     }
 
-    /// Becomes the cell of a cluster of `width` columns, of which none count as one; a refused one
-    /// stays as it was. It is not refused where the text has at most 15 bytes and the attributes no link.
+    /// Becomes the cell of a cluster of `width` columns, where 0 counts as 1; where this is refused, the
+    /// cell stays as it was. It is not refused where the text has at most 15 bytes and the attributes no link.
     pub fn set_grapheme_with_width(
         &mut self,
         alloc: Global,
@@ -200,7 +200,7 @@ impl Cell {
         &self.attributes
     }
 
-    /// The attributes, lent to be changed.
+    /// A mutable borrow of the attributes.
     pub fn attrs_mut(&mut self) -> &mut CellAttributes
         ensures* writes_back { sem 𝓛 (LendsAttributes self.entry result) }
         ensures value { result.now ≡ self.old.attributes }
@@ -208,7 +208,7 @@ impl Cell {
         &mut self.attributes
     }
 
-    // What each cell keeps.
+    // The invariant of every cell.
     pub(crate) fn is_lawful(&self)
         ensures { IsCell self.now }
     {

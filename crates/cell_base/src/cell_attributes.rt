@@ -9,7 +9,7 @@ use crate::attribute_change::AttributeChange;
 use crate::attributes::{Blink, Intensity, SemanticType, Underline, VerticalAlign};
 use crate::color::ColorAttribute;
 use crate::hyperlink::Hyperlink;
-use crate::look::{Flags, Look, Marks, Style};
+use crate::rendition::{Flags, Marks, Rendition, Style};
 use crate::stored_color::StoredColor;
 use std::alloc::AllocError;
 use std::marker::Model;
@@ -18,7 +18,7 @@ use std::rc::Rc;
 /// The attributes of a cell, compared by value, its link too.
 #[derive(Debug, Drop)]
 pub struct CellAttributes {
-    look: Look,
+    rendition: Rendition,
     hyperlink: Option<Rc<Hyperlink>>,
 }
 
@@ -38,7 +38,7 @@ impl CellAttributes {
         ensures { result ≡ plain }
     {
         CellAttributes {
-            look: Look {
+            rendition: Rendition {
                 style: Style {
                     marks: Marks {
                         intensity: Intensity::Normal,
@@ -69,15 +69,15 @@ impl CellAttributes {
     pub fn intensity(&self) -> Intensity
         ensures { result ≡ self.now.intensity }
     {
-        self.look.style.marks.intensity
+        self.rendition.style.marks.intensity
     }
 
-    /// Sets how bold the text is, and lends the attributes on.
+    /// Sets how bold the text is, and returns `self`.
     pub fn set_intensity(&mut self, value: Intensity) -> &mut CellAttributes
         ensures chains { result.ghost_name ≡ self.entry.ghost_name }
         ensures set { result.now ≡ record self.old { intensity = value } }
     {
-        self.look.style.marks.intensity = value;
+        self.rendition.style.marks.intensity = value;
         self
     }
 
@@ -85,15 +85,15 @@ impl CellAttributes {
     pub fn underline(&self) -> Underline
         ensures { result ≡ self.now.underline }
     {
-        self.look.style.marks.underline
+        self.rendition.style.marks.underline
     }
 
-    /// Sets how the text is underlined, and lends the attributes on.
+    /// Sets how the text is underlined, and returns `self`.
     pub fn set_underline(&mut self, value: Underline) -> &mut CellAttributes
         ensures chains { result.ghost_name ≡ self.entry.ghost_name }
         ensures set { result.now ≡ record self.old { underline = value } }
     {
-        self.look.style.marks.underline = value;
+        self.rendition.style.marks.underline = value;
         self
     }
 
@@ -101,15 +101,15 @@ impl CellAttributes {
     pub fn blink(&self) -> Blink
         ensures { result ≡ self.now.blink }
     {
-        self.look.style.marks.blink
+        self.rendition.style.marks.blink
     }
 
-    /// Sets how the text blinks, and lends the attributes on.
+    /// Sets how the text blinks, and returns `self`.
     pub fn set_blink(&mut self, value: Blink) -> &mut CellAttributes
         ensures chains { result.ghost_name ≡ self.entry.ghost_name }
         ensures set { result.now ≡ record self.old { blink = value } }
     {
-        self.look.style.marks.blink = value;
+        self.rendition.style.marks.blink = value;
         self
     }
 
@@ -117,15 +117,15 @@ impl CellAttributes {
     pub fn italic(&self) -> bool
         ensures { result ≡ self.now.italic }
     {
-        self.look.style.flags.italic
+        self.rendition.style.flags.italic
     }
 
-    /// Sets whether the text is italic, and lends the attributes on.
+    /// Sets whether the text is italic, and returns `self`.
     pub fn set_italic(&mut self, value: bool) -> &mut CellAttributes
         ensures chains { result.ghost_name ≡ self.entry.ghost_name }
         ensures set { result.now ≡ record self.old { italic = value } }
     {
-        self.look.style.flags.italic = value;
+        self.rendition.style.flags.italic = value;
         self
     }
 
@@ -133,15 +133,15 @@ impl CellAttributes {
     pub fn reverse(&self) -> bool
         ensures { result ≡ self.now.reverse }
     {
-        self.look.style.flags.reverse
+        self.rendition.style.flags.reverse
     }
 
-    /// Sets whether foreground and background change places, and lends the attributes on.
+    /// Sets whether foreground and background change places, and returns `self`.
     pub fn set_reverse(&mut self, value: bool) -> &mut CellAttributes
         ensures chains { result.ghost_name ≡ self.entry.ghost_name }
         ensures set { result.now ≡ record self.old { reverse = value } }
     {
-        self.look.style.flags.reverse = value;
+        self.rendition.style.flags.reverse = value;
         self
     }
 
@@ -149,15 +149,15 @@ impl CellAttributes {
     pub fn strikethrough(&self) -> bool
         ensures { result ≡ self.now.strikethrough }
     {
-        self.look.style.flags.strikethrough
+        self.rendition.style.flags.strikethrough
     }
 
-    /// Sets whether the text is struck through, and lends the attributes on.
+    /// Sets whether the text is struck through, and returns `self`.
     pub fn set_strikethrough(&mut self, value: bool) -> &mut CellAttributes
         ensures chains { result.ghost_name ≡ self.entry.ghost_name }
         ensures set { result.now ≡ record self.old { strikethrough = value } }
     {
-        self.look.style.flags.strikethrough = value;
+        self.rendition.style.flags.strikethrough = value;
         self
     }
 
@@ -165,15 +165,15 @@ impl CellAttributes {
     pub fn invisible(&self) -> bool
         ensures { result ≡ self.now.invisible }
     {
-        self.look.style.flags.invisible
+        self.rendition.style.flags.invisible
     }
 
-    /// Sets whether the text is hidden, and lends the attributes on.
+    /// Sets whether the text is hidden, and returns `self`.
     pub fn set_invisible(&mut self, value: bool) -> &mut CellAttributes
         ensures chains { result.ghost_name ≡ self.entry.ghost_name }
         ensures set { result.now ≡ record self.old { invisible = value } }
     {
-        self.look.style.flags.invisible = value;
+        self.rendition.style.flags.invisible = value;
         self
     }
 
@@ -181,15 +181,15 @@ impl CellAttributes {
     pub fn wrapped(&self) -> bool
         ensures { result ≡ self.now.wrapped }
     {
-        self.look.style.flags.wrapped
+        self.rendition.style.flags.wrapped
     }
 
-    /// Sets whether the line goes on in the next row after this cell, and lends the attributes on.
+    /// Sets whether the line goes on in the next row after this cell, and returns `self`.
     pub fn set_wrapped(&mut self, value: bool) -> &mut CellAttributes
         ensures chains { result.ghost_name ≡ self.entry.ghost_name }
         ensures set { result.now ≡ record self.old { wrapped = value } }
     {
-        self.look.style.flags.wrapped = value;
+        self.rendition.style.flags.wrapped = value;
         self
     }
 
@@ -197,15 +197,15 @@ impl CellAttributes {
     pub fn overline(&self) -> bool
         ensures { result ≡ self.now.overline }
     {
-        self.look.style.flags.overline
+        self.rendition.style.flags.overline
     }
 
-    /// Sets whether the text has a line above it, and lends the attributes on.
+    /// Sets whether the text has a line above it, and returns `self`.
     pub fn set_overline(&mut self, value: bool) -> &mut CellAttributes
         ensures chains { result.ghost_name ≡ self.entry.ghost_name }
         ensures set { result.now ≡ record self.old { overline = value } }
     {
-        self.look.style.flags.overline = value;
+        self.rendition.style.flags.overline = value;
         self
     }
 
@@ -213,31 +213,31 @@ impl CellAttributes {
     pub fn semantic_type(&self) -> SemanticType
         ensures { result ≡ self.now.semantic_type }
     {
-        self.look.style.semantic_type
+        self.rendition.style.semantic_type
     }
 
-    /// Sets what the text is, and lends the attributes on.
+    /// Sets what the text is, and returns `self`.
     pub fn set_semantic_type(&mut self, value: SemanticType) -> &mut CellAttributes
         ensures chains { result.ghost_name ≡ self.entry.ghost_name }
         ensures set { result.now ≡ record self.old { semantic_type = value } }
     {
-        self.look.style.semantic_type = value;
+        self.rendition.style.semantic_type = value;
         self
     }
 
-    /// Where the text stands on its line.
+    /// The vertical alignment of the text.
     pub fn vertical_align(&self) -> VerticalAlign
         ensures { result ≡ self.now.vertical_align }
     {
-        self.look.style.vertical_align
+        self.rendition.style.vertical_align
     }
 
-    /// Sets where the text stands on its line, and lends the attributes on.
+    /// Sets the vertical alignment of the text, and returns `self`.
     pub fn set_vertical_align(&mut self, value: VerticalAlign) -> &mut CellAttributes
         ensures chains { result.ghost_name ≡ self.entry.ghost_name }
         ensures set { result.now ≡ record self.old { vertical_align = value } }
     {
-        self.look.style.vertical_align = value;
+        self.rendition.style.vertical_align = value;
         self
     }
 
@@ -245,33 +245,33 @@ impl CellAttributes {
     pub fn foreground(&self) -> ColorAttribute
         ensures { result ≡ self.now.foreground }
     {
-        self.look.foreground.color()
+        self.rendition.foreground.color()
     }
 
-    /// Sets the colour of the text, and lends the attributes on.
+    /// Sets the colour of the text, and returns `self`.
     pub fn set_foreground<C: Into<ColorAttribute>>(&mut self, color: C) -> &mut CellAttributes
         ensures chains { result.ghost_name ≡ self.entry.ghost_name }
         ensures set { (c : ColorAttribute) × C.converts color c
             × (result.now ≡ record self.old { foreground = c }) }
     {
-        self.look.foreground = StoredColor::new(color.into());
+        self.rendition.foreground = StoredColor::new(color.into());
         self
     }
 
-    /// The colour after the text.
+    /// The background colour.
     pub fn background(&self) -> ColorAttribute
         ensures { result ≡ self.now.background }
     {
-        self.look.background.color()
+        self.rendition.background.color()
     }
 
-    /// Sets the colour after the text, and lends the attributes on.
+    /// Sets the background colour, and returns `self`.
     pub fn set_background<C: Into<ColorAttribute>>(&mut self, color: C) -> &mut CellAttributes
         ensures chains { result.ghost_name ≡ self.entry.ghost_name }
         ensures set { (c : ColorAttribute) × C.converts color c
             × (result.now ≡ record self.old { background = c }) }
     {
-        self.look.background = StoredColor::new(color.into());
+        self.rendition.background = StoredColor::new(color.into());
         self
     }
 
@@ -279,16 +279,16 @@ impl CellAttributes {
     pub fn underline_color(&self) -> ColorAttribute
         ensures { result ≡ self.now.underline_color }
     {
-        self.look.underline_color.color()
+        self.rendition.underline_color.color()
     }
 
-    /// Sets the colour of the underline, and lends the attributes on.
+    /// Sets the colour of the underline, and returns `self`.
     pub fn set_underline_color<C: Into<ColorAttribute>>(&mut self, color: C) -> &mut CellAttributes
         ensures chains { result.ghost_name ≡ self.entry.ghost_name }
         ensures set { (c : ColorAttribute) × C.converts color c
             × (result.now ≡ record self.old { underline_color = c }) }
     {
-        self.look.underline_color = StoredColor::new(color.into());
+        self.rendition.underline_color = StoredColor::new(color.into());
         self
     }
 
@@ -299,7 +299,7 @@ impl CellAttributes {
         self.hyperlink.as_ref()
     }
 
-    /// Sets or drops the link, and lends the attributes on.
+    /// Sets or drops the link, and returns `self`.
     pub fn set_hyperlink(&mut self, link: Option<Rc<Hyperlink>>) -> &mut CellAttributes
         ensures chains { result.ghost_name ≡ self.entry.ghost_name }
         ensures set { result.now ≡ record self.old { hyperlink = option_map (λ l. l.value) link } }
@@ -308,13 +308,13 @@ impl CellAttributes {
         self
     }
 
-    /// Whether the attributes are the same but for colours and link.
+    /// Whether the attributes are equal, except colours and link.
     pub fn attribute_bits_equal(&self, other: &CellAttributes) -> bool
         ensures { IsTrue result ↔ (style_of self.now ≡ style_of other.now) }
     {
-        self.look
+        self.rendition
             .without_colors()
-            .is_same(&other.look.without_colors())
+            .is_same(&other.rendition.without_colors())
     }
 
     /// Makes the attributes plain.
@@ -329,13 +329,13 @@ impl CellAttributes {
     pub fn clone_sgr_only(&self) -> CellAttributes
         ensures { result ≡ sgr_only self.now }
     {
-        let mut look = self.look;
-        look.style.semantic_type = SemanticType::Output;
-        look.style.marks.underline = Underline::None;
-        look.style.flags.overline = false;
-        look.style.flags.strikethrough = false;
+        let mut rendition = self.rendition;
+        rendition.style.semantic_type = SemanticType::Output;
+        rendition.style.marks.underline = Underline::None;
+        rendition.style.flags.overline = false;
+        rendition.style.flags.strikethrough = false;
         CellAttributes {
-            look,
+            rendition,
             hyperlink: None,
         }
     }
@@ -345,15 +345,20 @@ impl CellAttributes {
         ensures { self.new ≡ changed_by self.old change }
     {
         match change {
-            AttributeChange::Intensity(value) => self.look.style.marks.intensity = value,
-            AttributeChange::Underline(value) => self.look.style.marks.underline = value,
-            AttributeChange::Italic(value) => self.look.style.flags.italic = value,
-            AttributeChange::Blink(value) => self.look.style.marks.blink = value,
-            AttributeChange::Reverse(value) => self.look.style.flags.reverse = value,
-            AttributeChange::StrikeThrough(value) => self.look.style.flags.strikethrough = value,
-            AttributeChange::Invisible(value) => self.look.style.flags.invisible = value,
-            AttributeChange::Foreground(value) => self.look.foreground = StoredColor::new(value),
-            AttributeChange::Background(value) => self.look.background = StoredColor::new(value),
+            AttributeChange::Intensity(value) => self.rendition.style.marks.intensity = value,
+            AttributeChange::Underline(value) => self.rendition.style.marks.underline = value,
+            AttributeChange::Italic(value) => self.rendition.style.flags.italic = value,
+            AttributeChange::Blink(value) => self.rendition.style.marks.blink = value,
+            AttributeChange::Reverse(value) => self.rendition.style.flags.reverse = value,
+            AttributeChange::StrikeThrough(value) => self.rendition.style.flags.strikethrough =
+                value,
+            AttributeChange::Invisible(value) => self.rendition.style.flags.invisible = value,
+            AttributeChange::Foreground(value) => self.rendition.foreground = StoredColor::new(
+                value,
+            ),
+            AttributeChange::Background(value) => self.rendition.background = StoredColor::new(
+                value,
+            ),
             AttributeChange::Hyperlink(value) => self.hyperlink = value,
         }
     }
@@ -362,7 +367,8 @@ impl CellAttributes {
     fn is_same(&self, other: &CellAttributes) -> bool
         ensures { IsTrue result ↔ (self.now ≡ other.now) }
     {
-        self.look.is_same(&other.look) && same_hyperlink(self.hyperlink(), other.hyperlink())
+        self.rendition.is_same(&other.rendition)
+            && same_hyperlink(self.hyperlink(), other.hyperlink())
     }
 
     // Shares the link of other attributes, or drops its own where they have none.
@@ -411,7 +417,7 @@ impl CellAttributes {
         ensures refused { OnErr result (self.new ≡ self.old) }
     {
         self.share_link(other)?;
-        self.look = other.look;
+        self.rendition = other.rendition;
         Ok(())
     }
 
@@ -422,7 +428,7 @@ impl CellAttributes {
     {
         let hyperlink = self.shared_link()?;
         Ok(CellAttributes {
-            look: self.look,
+            rendition: self.rendition,
             hyperlink,
         })
     }

@@ -16,7 +16,7 @@ pub(crate) enum CellText {
 }
 
 impl CellText {
-    // What stands in a cell for the text.
+    // The cell's text for `text`: a space where no cell holds it as it is.
     pub(crate) fn new(alloc: Global, text: &str, is_wide: bool) -> Result<CellText, AllocError>
         requires { is_wide ≡ true → shows_as_space text.now ≡ false }
         ensures text { IfOk result (λ t. text_bytes t ≡ cell_text text.now) }

@@ -157,7 +157,7 @@ impl From<SrgbaTuple> for ColorSpec {
     }
 }
 
-/// A colour of a cell: a true colour may name what stands in for it where true colour is lacking.
+/// A colour of a cell: a true colour may name a palette index as its fallback where true colour is lacking.
 #[derive(Debug, Clone, Copy, PartialEq, Eq, Hash, Default)]
 pub enum ColorAttribute {
     #[default]

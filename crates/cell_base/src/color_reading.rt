@@ -7,7 +7,7 @@ ghost use Rattle.cell_base.specs.ColorText.{hex_reading, scaled, sharp_reading, 
 
 use crate::color::RgbColor;
 
-// What a hex digit stands for.
+// The value of a hex digit.
 fn hex_digit(byte: u8) -> u8
     requires { is_ascii_hexdigit byte ≡ true }
     ensures value { result ≡ digit_value byte }
@@ -69,7 +69,7 @@ fn scaled(digits: &[u8]) -> Option<u8>
     Some(scaled as u8)
 }
 
-// What follows `#`.
+// Reads the text after `#`.
 pub(crate) fn read_sharp(digits: &[u8]) -> Option<RgbColor>
     ensures { option_map channels result ≡ sharp_reading digits.now }
 {
@@ -83,7 +83,7 @@ pub(crate) fn read_sharp(digits: &[u8]) -> Option<RgbColor>
     Some(RgbColor::new_8bpc(red, green, blue))
 }
 
-// What follows `rgb:`.
+// Reads the text after `rgb:`.
 pub(crate) fn read_x11(text: &str) -> Option<RgbColor>
     ensures { option_map channels result ≡ x11_reading text.now }
 {

@@ -8,8 +8,8 @@ ghost use Rattle.unicode_segmentation.specs.Grapheme.{graphemes};
 use crate::widths::Widths;
 use unicode_segmentation::UnicodeSegmentation;
 
-/// The columns of a text: those of its extended grapheme clusters (UAX 29), added up. A sum past
-/// `usize::MAX` stays there.
+/// The columns of a text: the sum of the columns of its extended grapheme clusters (UAX 29), at most
+/// `usize::MAX`.
 pub fn unicode_column_width<W: Widths>(s: &str, w: &W) -> usize
     ensures { result ≡ min (sum_by (W.width_of w.now) (graphemes true s.now)) (2 ^ 64 - 1) }
 {

@@ -107,10 +107,10 @@ impl Hyperlink {
         }
     }
 
-    /// Reads a link from the parts of an OSC 8: the first isn't looked at, the second holds the
-    /// parameters, and those from the third on are the URI, joined by `;`. Two empty texts are no
-    /// link. A refusal other than `Memory` is answered whatever the memory, the first of
-    /// `PartCount`, `Utf8` and `Params` that holds.
+    /// Reads a link from the parts of an OSC 8: the first part is ignored, the second holds the
+    /// parameters, and the parts from the third on are the URI, joined by `;`. Where both texts are
+    /// empty, there is no link. An error other than `Memory` doesn't depend on the memory: it is the
+    /// first of `PartCount`, `Utf8` and `Params` that applies.
     pub fn parse(alloc: Global, parts: &[&[u8]]) -> Result<Option<Hyperlink>, LinkError>
         ensures { IsUnlessMemory (link_reading (map (λ p. p.now) parts.now)) result }
     {
@@ -155,9 +155,9 @@ impl Hyperlink {
         Ok(Hyperlink::given(uri, params))
     }
 
-    /// Whether what an OSC 8 of the link's text says is the link again. It is so where the link was
-    /// given by a program and has a URI or parameters, no key holds `=`, `:` or `;`, and no value `:`
-    /// or `;`. Takes no memory.
+    /// Whether an OSC 8 of the link's text reads back as the link. It does where the link was given by
+    /// a program and has a URI or parameters, no key holds `=`, `:` or `;`, and no value `:` or `;`.
+    /// Takes no memory.
     pub fn reads_back(&self) -> bool
         ensures { IsTrue result ↔ IsReadBack self.now }
     {
@@ -279,7 +279,7 @@ fn same_params(a: &BTreeMap<String, String>, b: &BTreeMap<String, String>) -> bo
     *a == *b
 }
 
-// Whether each key and each value stands in a link's text as it is.
+// Whether a link's text can hold each key and each value unchanged.
 fn are_writable(params: &BTreeMap<String, String>) -> bool
     ensures { result ≡ list_all is_writable (texts_of params.now.entries) }
 {

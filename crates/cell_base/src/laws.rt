@@ -7,21 +7,21 @@ ghost use Rattle.cell_base.specs.LinkText.{link_reading, pieces, text_of_link};
 
 use crate::cell::Cell;
 
-/// A cell takes one or two columns, and its text is none that would stand as a space.
+/// A cell takes one or two columns, and its text is none that a cell replaces by a space.
 pub fn cells_are_lawful(cell: &Cell)
     ensures { IsCell cell.now }
 {
     cell.is_lawful();
 }
 
-/// Each cluster of a text is by itself one cluster, so it is read as it is.
+/// Each cluster of a text is by itself one cluster, so it is read unchanged.
 pub fn clusters_as_they_are(text: &str)
     ensures { clusters text.now ≡ graphemes true text.now }
 {
     let _text = text;
 }
 
-/// What the parts of an OSC 8 gave, a link or none, reads back equal from its text: from the text's
+/// The link, or none, read from the parts of an OSC 8 reads back equal from its text: from the text's
 /// parts between `;`.
 pub fn link_reads_back(body: &[u8])
     ensures { IfOk (link_reading (pieces 59 body.now))

@@ -1,7 +1,7 @@
 //! The values that every layer of the stack speaks of: colours, attributes, links, widths and
 //! cells.
 //!
-//! - `row_laws`: columns whose halves stand in pairs, and what becomes of rows where columns are set.
+//! - `row_laws`: columns whose halves come in pairs, and rows after columns are set in them.
 #![tactic(auto)]
 
 mod attribute_change;
@@ -18,8 +18,8 @@ pub mod laws;
 mod link_error;
 mod link_reading;
 mod long_text;
-mod look;
 mod ranges;
+mod rendition;
 pub mod row_laws;
 mod stored_color;
 mod widths;

@@ -71,7 +71,7 @@ fn has_semicolon(text: &str) -> bool
     text.contains(';')
 }
 
-// Whether a text stands in a link's text as it is: a value, a key, both.
+// Whether a link's text can hold a text unchanged: as a value, as a key, both.
 fn is_value(text: &str) -> bool
     ensures { result ≡ is_value_text text.now }
 {

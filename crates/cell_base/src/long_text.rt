@@ -4,7 +4,7 @@ ghost use Rattle.std.specs.String.{string_bytes};
 
 use std::alloc::{AllocError, Global};
 
-// A text of more than 15 bytes, and whether it takes two columns. What holds it is boxed, so that a cell is small.
+// A text of more than 15 bytes, and whether it takes two columns. Its `String` is boxed, so that a cell is small.
 #[derive(Debug, Drop)]
 pub(crate) struct LongText {
     pub(crate) text: Box<String>,

@@ -5,8 +5,8 @@ ghost use Rattle.cell_base.specs.Screen.{Screen, IsScreen, new_screen, scrolled,
 ghost use Rattle.cell_base.specs.Screen.{write_columns, put};
 ghost use Rattle.cell_base.specs.WholeRow.{IsWhole};
 
-/// Columns set within a row leave its length; whole columns set in a whole row leave it whole; and
-/// columns set after others are set with them.
+/// Columns set within a row keep its length; whole columns set in a whole row keep it whole; and
+/// columns set right after whole columns are set together with these.
 pub fn columns_set_within()
     ensures len { (row : Row) (at : ℕ) (columns : Row) → at + length columns ≤ length row
         → length (set_columns row at columns) ≡ length row }
@@ -16,7 +16,7 @@ pub fn columns_set_within()
         → set_columns (set_columns row at first) (at + length first) second ≡ set_columns row at (first ++ second) }
 {}
 
-/// A new screen is lawful, and what is done to a lawful screen leaves one.
+/// A new screen is lawful, and each operation on a lawful screen keeps it lawful.
 pub fn screens_stay_lawful()
     ensures new { (width : ℕ) (height : ℕ) → 0 < width → 0 < height → IsScreen (new_screen width height) }
     ensures scrolled { (screen : Screen) → IsScreen screen → IsScreen (scrolled screen) }

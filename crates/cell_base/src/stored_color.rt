@@ -13,7 +13,7 @@ pub(crate) enum ColorKind {
     DirectOrIndexed,
 }
 
-// A colour in six bytes, of which those are 0 that don't count. So equal colours are equal bytes.
+// A colour in six bytes. The bytes that its kind doesn't use are 0, so equal colours are equal bytes.
 #[derive(Debug, Clone, Copy)]
 pub(crate) struct StoredColor {
     pub(crate) kind: ColorKind,
@@ -24,7 +24,7 @@ pub(crate) struct StoredColor {
 }
 
 impl StoredColor {
-    ghost use Rattle.cell_base.specs.LookView.{color_of};
+    ghost use Rattle.cell_base.specs.RenditionView.{color_of};
 
     pub(crate) fn new(color: ColorAttribute) -> StoredColor
         ensures { color_of result ≡ color }

@@ -29,13 +29,13 @@ pub trait Widths {
         self.width(character.encode_utf8(&mut buffer))
     }
 
-    /// The columns of a character by itself, if it is one of those of which they are known without a look at a table
-    /// and that are independent, so that a boundary of clusters lies between any two of them. To answer `None` is never
-    /// wrong.
+    /// The columns of a character by itself, if they are known without a table and the character is independent: a
+    /// boundary of clusters lies between any two independent characters. An implementation may answer `None` for any
+    /// character.
     fn letter_columns(&self, character: char) -> Option<u8>
         ensures value { IfSome result (λ columns. columns ≡ width_of self.now (encode_utf8 character)) }
         ensures some { IfSome result (λ columns. 1 ≤ columns) }
-        ensures apart { IfSome result (λ columns. is_independent character ≡ true) }
+        ensures independent { IfSome result (λ columns. is_independent character ≡ true) }
     {
         let _character = character;
         None
@@ -92,7 +92,7 @@ impl Widths for ProgramWidth {
     fn letter_columns(&self, character: char) -> Option<u8>
         ensures value { IfSome result (λ columns. columns ≡ program_width (encode_utf8 character)) }
         ensures some { IfSome result (λ columns. 1 ≤ columns) }
-        ensures apart { IfSome result (λ columns. is_independent character ≡ true) }
+        ensures independent { IfSome result (λ columns. is_independent character ≡ true) }
     {
         known_columns(character)
     }
@@ -146,7 +146,7 @@ fn is_western_letter(code: u32) -> bool
     is_in(code, 0xc0, 0x2af) || is_in(code, 0x400, 0x481)
 }
 
-// Whether a number lies between two others, or is one of them.
+// Whether `code` lies in `first..=last`.
 #[inline(always)]
 fn is_in(code: u32, first: u32, last: u32) -> bool
     ensures { result ≡ is_in_range first last code }
@@ -154,12 +154,12 @@ fn is_in(code: u32, first: u32, last: u32) -> bool
     (first <= code) & (code <= last)
 }
 
-// The columns of a character of which they are known without a look at the table: of most letters.
+// The columns of a character where they are known without the table: of most letters.
 #[inline(always)]
 fn known_columns(character: char) -> Option<u8>
     ensures value { IfSome result (λ columns. columns ≡ program_width (encode_utf8 character)) }
     ensures some { IfSome result (λ columns. 1 ≤ columns) }
-    ensures apart { IfSome result (λ columns. is_independent character ≡ true) }
+    ensures independent { IfSome result (λ columns. is_independent character ≡ true) }
 {
     let code = character as u32;
     if is_eastern_letter(code) {

@@ -30,11 +30,11 @@ row_wide c n cs e = rw e refl
 pub row_narrow : (c n : CellContent) (cs : List CellContent) → nat_le 2 c.width ≡ false → row_of_cells (c ∷ n ∷ cs) ≡ Narrow c.text c.attributes ∷ row_of_cells (n ∷ cs)
 row_narrow c n cs e = rw e refl
 
-pub halved_wide : (c n : CellContent) (cs : List CellContent) → nat_le 2 c.width ≡ true → ends_split (c ∷ n ∷ cs) ≡ ends_split cs
-halved_wide c n cs e = rw e refl
+pub split_wide : (c n : CellContent) (cs : List CellContent) → nat_le 2 c.width ≡ true → ends_split (c ∷ n ∷ cs) ≡ ends_split cs
+split_wide c n cs e = rw e refl
 
-pub halved_narrow : (c n : CellContent) (cs : List CellContent) → nat_le 2 c.width ≡ false → ends_split (c ∷ n ∷ cs) ≡ ends_split (n ∷ cs)
-halved_narrow c n cs e = rw e refl
+pub split_narrow : (c n : CellContent) (cs : List CellContent) → nat_le 2 c.width ≡ false → ends_split (c ∷ n ∷ cs) ≡ ends_split (n ∷ cs)
+split_narrow c n cs e = rw e refl
 
 -- a line has a column for each cell
 pub length-row : (cells : List CellContent) → length (row_of_cells cells) ≡ length cells
@@ -70,11 +70,11 @@ before_clean (c ∷ n ∷ cs) zero h = refl
 before_clean (c ∷ n ∷ cs) (suc zero) h = rw h refl
 before_clean (c ∷ n ∷ cs) (suc (suc m)) h = by_test (nat_le 2 c.width)
     (λ e. row_wide c n (take m cs) e
-    ∙ ap (λ (r : Row). LeftHalf c.text c.attributes ∷ RightHalf c.attributes ∷ r) (before_clean cs m (sym (halved_wide c n (take m cs) e) ∙ h))
+    ∙ ap (λ (r : Row). LeftHalf c.text c.attributes ∷ RightHalf c.attributes ∷ r) (before_clean cs m (sym (split_wide c n (take m cs) e) ∙ h))
     ∙ sym (closed_end-wide c.text c.attributes (take m (row_of_cells cs)))
     ∙ sym (ap (λ (r : Row). closed_end (take (suc (suc m)) r)) (row_wide c n cs e)))
     (λ e. row_narrow c n (take m cs) e
-    ∙ ap (λ (r : Row). Narrow c.text c.attributes ∷ r) (before_clean (n ∷ cs) (suc m) (sym (halved_narrow c n (take m cs) e) ∙ h))
+    ∙ ap (λ (r : Row). Narrow c.text c.attributes ∷ r) (before_clean (n ∷ cs) (suc m) (sym (split_narrow c n (take m cs) e) ∙ h))
     ∙ sym (closed_end-narrow c.text c.attributes (take (suc m) (row_of_cells (n ∷ cs))))
     ∙ sym (ap (λ (r : Row). closed_end (take (suc (suc m)) r)) (row_narrow c n cs e)))
 
@@ -85,8 +85,8 @@ after_clean (c ∷ []) (suc zero) h = refl
 after_clean (c ∷ []) (suc (suc m)) h = refl
 after_clean (c ∷ n ∷ cs) (suc zero) h = starts_closed (n ∷ cs) ∙ sym (ap (λ (r : Row). closed_start (drop 1 r)) (row_narrow c n cs h))
 after_clean (c ∷ n ∷ cs) (suc (suc m)) h = by_test (nat_le 2 c.width)
-    (λ e. after_clean cs m (sym (halved_wide c n (take m cs) e) ∙ h) ∙ sym (ap (λ (r : Row). closed_start (drop (suc (suc m)) r)) (row_wide c n cs e)))
-    (λ e. after_clean (n ∷ cs) (suc m) (sym (halved_narrow c n (take m cs) e) ∙ h) ∙ sym (ap (λ (r : Row). closed_start (drop (suc (suc m)) r)) (row_narrow c n cs e)))
+    (λ e. after_clean cs m (sym (split_wide c n (take m cs) e) ∙ h) ∙ sym (ap (λ (r : Row). closed_start (drop (suc (suc m)) r)) (row_wide c n cs e)))
+    (λ e. after_clean (n ∷ cs) (suc m) (sym (split_narrow c n (take m cs) e) ∙ h) ∙ sym (ap (λ (r : Row). closed_start (drop (suc (suc m)) r)) (row_narrow c n cs e)))
 
 -- ---- a cut through a wide cell, whose two cells become blanks
 
@@ -101,18 +101,18 @@ before_cut (c ∷ []) zero d h l = rw h refl
 before_cut (c ∷ []) (suc p) d h l = absurd (omega arith)
 before_cut (c ∷ n ∷ cs) zero d h l = rw h refl
 before_cut (c ∷ n ∷ cs) (suc zero) d h l = by_test (nat_le 2 c.width)
-    (λ e. absurd (false≢true (sym (halved_wide c n [] e) ∙ h)))
+    (λ e. absurd (false≢true (sym (split_wide c n [] e) ∙ h)))
     (λ e. row_narrow c (blank_cell n.attributes) [] e
-    ∙ ap (λ (r : Row). Narrow c.text c.attributes ∷ r) (before_cut (n ∷ cs) zero d (sym (halved_narrow c n [] e) ∙ h) (omega arith))
+    ∙ ap (λ (r : Row). Narrow c.text c.attributes ∷ r) (before_cut (n ∷ cs) zero d (sym (split_narrow c n [] e) ∙ h) (omega arith))
     ∙ sym (closed_end-narrow c.text c.attributes (take 1 (row_of_cells (n ∷ cs))))
     ∙ sym (ap (λ (r : Row). closed_end (take 2 r)) (row_narrow c n cs e)))
 before_cut (c ∷ n ∷ cs) (suc (suc p)) d h l = by_test (nat_le 2 c.width)
     (λ e. row_wide c n (take p cs ++ blank_cell (get_or cs p d).attributes ∷ []) e
-    ∙ ap (λ (r : Row). LeftHalf c.text c.attributes ∷ RightHalf c.attributes ∷ r) (before_cut cs p d (sym (halved_wide c n (take (suc p) cs) e) ∙ h) (omega arith))
+    ∙ ap (λ (r : Row). LeftHalf c.text c.attributes ∷ RightHalf c.attributes ∷ r) (before_cut cs p d (sym (split_wide c n (take (suc p) cs) e) ∙ h) (omega arith))
     ∙ sym (closed_end-wide c.text c.attributes (take (suc p) (row_of_cells cs)))
     ∙ sym (ap (λ (r : Row). closed_end (take (suc (suc (suc p))) r)) (row_wide c n cs e)))
     (λ e. row_narrow c n (take p cs ++ blank_cell (get_or cs p d).attributes ∷ []) e
-    ∙ ap (λ (r : Row). Narrow c.text c.attributes ∷ r) (before_cut (n ∷ cs) (suc p) d (sym (halved_narrow c n (take (suc p) cs) e) ∙ h) (omega arith))
+    ∙ ap (λ (r : Row). Narrow c.text c.attributes ∷ r) (before_cut (n ∷ cs) (suc p) d (sym (split_narrow c n (take (suc p) cs) e) ∙ h) (omega arith))
     ∙ sym (closed_end-narrow c.text c.attributes (take (suc (suc p)) (row_of_cells (n ∷ cs))))
     ∙ sym (ap (λ (r : Row). closed_end (take (suc (suc (suc p))) r)) (row_narrow c n cs e)))
 
@@ -122,11 +122,11 @@ after_cut [] p d h l = absurd (omega arith)
 after_cut (c ∷ []) p d h l = absurd (omega arith)
 after_cut (c ∷ n ∷ cs) zero d h l = blank_row c.attributes cs ∙ sym (ap (λ (r : Row). closed_start (drop 1 r)) (row_wide c n cs h))
 after_cut (c ∷ n ∷ cs) (suc zero) d h l = by_test (nat_le 2 c.width)
-    (λ e. absurd (false≢true (sym (halved_wide c n [] e) ∙ h)))
-    (λ e. after_cut (n ∷ cs) zero d (sym (halved_narrow c n [] e) ∙ h) (omega arith) ∙ sym (ap (λ (r : Row). closed_start (drop 2 r)) (row_narrow c n cs e)))
+    (λ e. absurd (false≢true (sym (split_wide c n [] e) ∙ h)))
+    (λ e. after_cut (n ∷ cs) zero d (sym (split_narrow c n [] e) ∙ h) (omega arith) ∙ sym (ap (λ (r : Row). closed_start (drop 2 r)) (row_narrow c n cs e)))
 after_cut (c ∷ n ∷ cs) (suc (suc p)) d h l = by_test (nat_le 2 c.width)
-    (λ e. after_cut cs p d (sym (halved_wide c n (take (suc p) cs) e) ∙ h) (omega arith) ∙ sym (ap (λ (r : Row). closed_start (drop (suc (suc (suc p))) r)) (row_wide c n cs e)))
-    (λ e. after_cut (n ∷ cs) (suc p) d (sym (halved_narrow c n (take (suc p) cs) e) ∙ h) (omega arith) ∙ sym (ap (λ (r : Row). closed_start (drop (suc (suc (suc p))) r)) (row_narrow c n cs e)))
+    (λ e. after_cut cs p d (sym (split_wide c n (take (suc p) cs) e) ∙ h) (omega arith) ∙ sym (ap (λ (r : Row). closed_start (drop (suc (suc (suc p))) r)) (row_wide c n cs e)))
+    (λ e. after_cut (n ∷ cs) (suc p) d (sym (split_narrow c n (take (suc p) cs) e) ∙ h) (omega arith) ∙ sym (ap (λ (r : Row). closed_start (drop (suc (suc (suc p))) r)) (row_narrow c n cs e)))
 
 -- what is cut at the end where nothing is after it
 pub cut_whole : (cells : List CellContent) (p : ℕ) (a : Attributes) → ends_split (take (suc p) cells) ≡ true → p < length cells → ends_split (take p cells ++ blank_cell a ∷ []) ≡ false
@@ -135,49 +135,49 @@ cut_whole (c ∷ []) zero a h l = refl
 cut_whole (c ∷ []) (suc p) a h l = absurd (omega arith)
 cut_whole (c ∷ n ∷ cs) zero a h l = refl
 cut_whole (c ∷ n ∷ cs) (suc zero) a h l = by_test (nat_le 2 c.width)
-    (λ e. absurd (false≢true (sym (halved_wide c n [] e) ∙ h)))
-    (λ e. halved_narrow c (blank_cell a) [] e ∙ cut_whole (n ∷ cs) zero a (sym (halved_narrow c n [] e) ∙ h) (omega arith))
+    (λ e. absurd (false≢true (sym (split_wide c n [] e) ∙ h)))
+    (λ e. split_narrow c (blank_cell a) [] e ∙ cut_whole (n ∷ cs) zero a (sym (split_narrow c n [] e) ∙ h) (omega arith))
 cut_whole (c ∷ n ∷ cs) (suc (suc p)) a h l = by_test (nat_le 2 c.width)
-    (λ e. halved_wide c n (take p cs ++ blank_cell a ∷ []) e ∙ cut_whole cs p a (sym (halved_wide c n (take (suc p) cs) e) ∙ h) (omega arith))
-    (λ e. halved_narrow c n (take p cs ++ blank_cell a ∷ []) e ∙ cut_whole (n ∷ cs) (suc p) a (sym (halved_narrow c n (take (suc p) cs) e) ∙ h) (omega arith))
+    (λ e. split_wide c n (take p cs ++ blank_cell a ∷ []) e ∙ cut_whole cs p a (sym (split_wide c n (take (suc p) cs) e) ∙ h) (omega arith))
+    (λ e. split_narrow c n (take p cs ++ blank_cell a ∷ []) e ∙ cut_whole (n ∷ cs) (suc p) a (sym (split_narrow c n (take (suc p) cs) e) ∙ h) (omega arith))
 
 -- ---- one more cell
 
-pub halved_more : (cells : List CellContent) (k : ℕ) (d : CellContent) → k < length cells → ends_split (take (suc k) cells) ≡ (if nat_le 2 (get_or cells k d).width then not (ends_split (take k cells)) else false)
-halved_more [] k d l = absurd (omega arith)
-halved_more (c ∷ []) zero d l = by_test (nat_le 2 c.width) (λ e. rw e refl) (λ e. rw e refl)
-halved_more (c ∷ []) (suc k) d l = absurd (omega arith)
-halved_more (c ∷ n ∷ cs) zero d l = by_test (nat_le 2 c.width) (λ e. rw e refl) (λ e. rw e refl)
-halved_more (c ∷ n ∷ cs) (suc zero) d l = by_test (nat_le 2 c.width)
+pub split_more : (cells : List CellContent) (k : ℕ) (d : CellContent) → k < length cells → ends_split (take (suc k) cells) ≡ (if nat_le 2 (get_or cells k d).width then not (ends_split (take k cells)) else false)
+split_more [] k d l = absurd (omega arith)
+split_more (c ∷ []) zero d l = by_test (nat_le 2 c.width) (λ e. rw e refl) (λ e. rw e refl)
+split_more (c ∷ []) (suc k) d l = absurd (omega arith)
+split_more (c ∷ n ∷ cs) zero d l = by_test (nat_le 2 c.width) (λ e. rw e refl) (λ e. rw e refl)
+split_more (c ∷ n ∷ cs) (suc zero) d l = by_test (nat_le 2 c.width)
     (λ e. by_test (nat_le 2 n.width) (λ f. rw (e, f) refl) (λ f. rw (e, f) refl))
     (λ e. by_test (nat_le 2 n.width) (λ f. rw (e, f) refl) (λ f. rw (e, f) refl))
-halved_more (c ∷ n ∷ cs) (suc (suc k)) d l = by_test (nat_le 2 c.width)
-    (λ e. halved_wide c n (take (suc k) cs) e ∙ halved_more cs k d (omega arith) ∙ ap (λ h. if nat_le 2 (get_or cs k d).width then not h else false) (sym (halved_wide c n (take k cs) e)))
-    (λ e. halved_narrow c n (take (suc k) cs) e ∙ halved_more (n ∷ cs) (suc k) d (omega arith) ∙ ap (λ h. if nat_le 2 (get_or cs k d).width then not h else false) (sym (halved_narrow c n (take k cs) e)))
+split_more (c ∷ n ∷ cs) (suc (suc k)) d l = by_test (nat_le 2 c.width)
+    (λ e. split_wide c n (take (suc k) cs) e ∙ split_more cs k d (omega arith) ∙ ap (λ h. if nat_le 2 (get_or cs k d).width then not h else false) (sym (split_wide c n (take k cs) e)))
+    (λ e. split_narrow c n (take (suc k) cs) e ∙ split_more (n ∷ cs) (suc k) d (omega arith) ∙ ap (λ h. if nat_le 2 (get_or cs k d).width then not h else false) (sym (split_narrow c n (take k cs) e)))
 
 -- the answer turns round at each wide cell
-pub turned_on : (halved now before answer : Bool) → (if halved then not now else now) ≡ answer → now ≡ not before → (if not halved then not before else before) ≡ answer
+pub turned_on : (was_split now before answer : Bool) → (if was_split then not now else now) ≡ answer → now ≡ not before → (if not was_split then not before else before) ≡ answer
 turned_on true now true answer h e = ap not (sym e) ∙ h
 turned_on true now false answer h e = ap not (sym e) ∙ h
 turned_on false now before answer h e = sym e ∙ h
 
-pub turned_last : (halved now answer : Bool) → (if halved then not now else now) ≡ answer → now ≡ false → halved ≡ answer
+pub turned_last : (was_split now answer : Bool) → (if was_split then not now else now) ≡ answer → now ≡ false → was_split ≡ answer
 turned_last true now answer h e = ap not (sym e) ∙ h
 turned_last false now answer h e = sym e ∙ h
 
-pub halved_at_wide : (cells : List CellContent) (n : ℕ) (d : CellContent) → 0 < n → n ≤ length cells → 2 ≤ (get_or cells (n - 1) d).width → ends_split (take n cells) ≡ not (ends_split (take (n - 1) cells))
-halved_at_wide cells zero d some l w = absurd (omega arith)
-halved_at_wide cells (suc k) d some l w =
+pub split_at_wide : (cells : List CellContent) (n : ℕ) (d : CellContent) → 0 < n → n ≤ length cells → 2 ≤ (get_or cells (n - 1) d).width → ends_split (take n cells) ≡ not (ends_split (take (n - 1) cells))
+split_at_wide cells zero d some l w = absurd (omega arith)
+split_at_wide cells (suc k) d some l w =
     let on : suc k - 1 ≡ k = omega arith in
     let w' : 2 ≤ (get_or cells k d).width = subst (λ (m : ℕ). 2 ≤ (get_or cells m d).width) on w in
-    halved_more cells k d (omega arith) ∙ ap (λ t. if t then not (ends_split (take k cells)) else false) (wide_is _ w') ∙ ap (λ (m : ℕ). not (ends_split (take m cells))) (sym on)
+    split_more cells k d (omega arith) ∙ ap (λ t. if t then not (ends_split (take k cells)) else false) (wide_is _ w') ∙ ap (λ (m : ℕ). not (ends_split (take m cells))) (sym on)
 
-pub halved_at_narrow : (cells : List CellContent) (n : ℕ) (d : CellContent) → 0 < n → n ≤ length cells → (get_or cells (n - 1) d).width < 2 → ends_split (take n cells) ≡ false
-halved_at_narrow cells zero d some l w = absurd (omega arith)
-halved_at_narrow cells (suc k) d some l w =
+pub split_at_narrow : (cells : List CellContent) (n : ℕ) (d : CellContent) → 0 < n → n ≤ length cells → (get_or cells (n - 1) d).width < 2 → ends_split (take n cells) ≡ false
+split_at_narrow cells zero d some l w = absurd (omega arith)
+split_at_narrow cells (suc k) d some l w =
     let on : suc k - 1 ≡ k = omega arith in
     let w' : (get_or cells k d).width < 2 = subst (λ (m : ℕ). (get_or cells m d).width < 2) on w in
-    halved_more cells k d (omega arith) ∙ ap (λ t. if t then not (ends_split (take k cells)) else false) (narrow_is _ w')
+    split_more cells k d (omega arith) ∙ ap (λ t. if t then not (ends_split (take k cells)) else false) (narrow_is _ w')
 
 -- ---- joined
 
@@ -186,13 +186,13 @@ row_joined [] ys h = refl
 row_joined (c ∷ []) [] h = refl
 row_joined (c ∷ []) (y ∷ ys) h = rw h refl
 row_joined (c ∷ n ∷ cs) ys h = by_test (nat_le 2 c.width)
-    (λ e. row_wide c n (cs ++ ys) e ∙ ap (λ (r : Row). LeftHalf c.text c.attributes ∷ RightHalf c.attributes ∷ r) (row_joined cs ys (sym (halved_wide c n cs e) ∙ h)) ∙ ap (λ (r : Row). r ++ row_of_cells ys) (sym (row_wide c n cs e)))
-    (λ e. row_narrow c n (cs ++ ys) e ∙ ap (λ (r : Row). Narrow c.text c.attributes ∷ r) (row_joined (n ∷ cs) ys (sym (halved_narrow c n cs e) ∙ h)) ∙ ap (λ (r : Row). r ++ row_of_cells ys) (sym (row_narrow c n cs e)))
+    (λ e. row_wide c n (cs ++ ys) e ∙ ap (λ (r : Row). LeftHalf c.text c.attributes ∷ RightHalf c.attributes ∷ r) (row_joined cs ys (sym (split_wide c n cs e) ∙ h)) ∙ ap (λ (r : Row). r ++ row_of_cells ys) (sym (row_wide c n cs e)))
+    (λ e. row_narrow c n (cs ++ ys) e ∙ ap (λ (r : Row). Narrow c.text c.attributes ∷ r) (row_joined (n ∷ cs) ys (sym (split_narrow c n cs e) ∙ h)) ∙ ap (λ (r : Row). r ++ row_of_cells ys) (sym (row_narrow c n cs e)))
 
-pub halved_joined : (xs ys : List CellContent) → ends_split xs ≡ false → ends_split (xs ++ ys) ≡ ends_split ys
-halved_joined [] ys h = refl
-halved_joined (c ∷ []) [] h = h
-halved_joined (c ∷ []) (y ∷ ys) h = rw h refl
-halved_joined (c ∷ n ∷ cs) ys h = by_test (nat_le 2 c.width)
-    (λ e. halved_wide c n (cs ++ ys) e ∙ halved_joined cs ys (sym (halved_wide c n cs e) ∙ h))
-    (λ e. halved_narrow c n (cs ++ ys) e ∙ halved_joined (n ∷ cs) ys (sym (halved_narrow c n cs e) ∙ h))
+pub split_joined : (xs ys : List CellContent) → ends_split xs ≡ false → ends_split (xs ++ ys) ≡ ends_split ys
+split_joined [] ys h = refl
+split_joined (c ∷ []) [] h = h
+split_joined (c ∷ []) (y ∷ ys) h = rw h refl
+split_joined (c ∷ n ∷ cs) ys h = by_test (nat_le 2 c.width)
+    (λ e. split_wide c n (cs ++ ys) e ∙ split_joined cs ys (sym (split_wide c n cs e) ∙ h))
+    (λ e. split_narrow c n (cs ++ ys) e ∙ split_joined (n ∷ cs) ys (sym (split_narrow c n cs e) ∙ h))

@@ -11,7 +11,7 @@ use Rattle.cell_base.specs.CellContent.{CellContent, blank_cell, row_of_cells}
 use Rattle.cell_base.specs.Row.{Narrow, LeftHalf, RightHalf, Row, blank, plain_row, closed_end, closed_start}
 use Rattle.cell_edits.specs.CellList.{ends_split, blank_for, cell_columns}
 use Rattle.cell_edits.specs.RowEdits.{cut, cut_prefix, padded, resized, removed, inserted}
-use Rattle.cell_edits.proofs.CellLemmas.{by_test, row_wide, row_narrow, length-row, closed_end-wide, closed_end-narrow, before_cut, after_cut, cut_whole, row_joined, halved_joined, halved_wide}
+use Rattle.cell_edits.proofs.CellLemmas.{by_test, row_wide, row_narrow, length-row, closed_end-wide, closed_end-narrow, before_cut, after_cut, cut_whole, row_joined, split_joined, split_wide}
 
 leb_false : (m n : ℕ) → n < m → nat_le m n ≡ false
 leb_false m n h = elim (leb_tells m n) [ inl p ↦ absurd (omega arith) | inr p ↦ p.0 ]
@@ -95,8 +95,8 @@ pub row_cut : (new : List CellContent) (at : ℕ) (before after : Row) → ends_
 row_cut new at before after w b d =
     ap row_of_cells (sym (take-append-drop at new)) ∙ row_joined (take at new) (drop at new) w ∙ (λ i. b i ++ d i)
 
-front_of_joined : (r : Row) (s j : ℕ) → s ≤ length r → closed_start (drop (s + suc j) (cut s r ++ cut_prefix s r)) ≡ cut_prefix (s + suc j) r
-front_of_joined r s j h =
+prefix_of_joined : (r : Row) (s j : ℕ) → s ≤ length r → closed_start (drop (s + suc j) (cut s r ++ cut_prefix s r)) ≡ cut_prefix (s + suc j) r
+prefix_of_joined r s j h =
     let n = length-cut s r h in
     ap (λ m. closed_start (drop (m + suc j) (cut s r ++ cut_prefix s r))) (sym n)
     ∙ ap closed_start (drop-append-add (cut s r) (cut_prefix s r) (suc j))
@@ -109,7 +109,7 @@ pub second_cut : (first second : List CellContent) (r : Row) (s e : ℕ) → s <
 second_cut first second r s e h l w b d k =
     let j : ℕ = e - s - 1 in
     let is : e ≡ s + suc j = omega arith in
-    k ∙ ap (cut_prefix e) (row_cut first s _ _ w b d) ∙ ap (λ m. closed_start (drop m (cut s r ++ cut_prefix s r))) is ∙ front_of_joined r s j l ∙ ap (λ m. cut_prefix m r) (sym is)
+    k ∙ ap (cut_prefix e) (row_cut first s _ _ w b d) ∙ ap (λ m. closed_start (drop m (cut s r ++ cut_prefix s r))) is ∙ prefix_of_joined r s j l ∙ ap (λ m. cut_prefix m r) (sym is)
 
 pub still_before : (first second : List CellContent) (s e : ℕ) → s < e → take (e - 1) second ≡ take (e - 1) first → take s second ≡ take s first
 still_before first second s e h k =
@@ -258,11 +258,11 @@ pub whole_narrow : (before after : List CellContent) (c : CellContent) (new : Li
 whole_narrow before after c new n l e w narrow =
     let long = length-append before (c ∷ []) in
     ap (λ xs. ends_split (take n xs)) (e ∙ sym (append_assoc before (c ∷ []) after))
-    ∙ ap ends_split (take_at (before ++ c ∷ []) after n (omega arith)) ∙ halved_joined before (c ∷ []) w ∙ narrow
+    ∙ ap ends_split (take_at (before ++ c ∷ []) after n (omega arith)) ∙ split_joined before (c ∷ []) w ∙ narrow
 
 pub whole_wide : (before after : List CellContent) (c f : CellContent) (new : List CellContent) (n : ℕ) → n ≡ length before + 2 → new ≡ before ++ c ∷ f ∷ after → ends_split before ≡ false → nat_le 2 c.width ≡ true
     → ends_split (take n new) ≡ false
 whole_wide before after c f new n l e w wide =
     let long = length-append before (c ∷ f ∷ []) in
     ap (λ xs. ends_split (take n xs)) (e ∙ sym (append_assoc before (c ∷ f ∷ []) after))
-    ∙ ap ends_split (take_at (before ++ c ∷ f ∷ []) after n (omega arith)) ∙ halved_joined before (c ∷ f ∷ []) w ∙ halved_wide c f [] wide
+    ∙ ap ends_split (take_at (before ++ c ∷ f ∷ []) after n (omega arith)) ∙ split_joined before (c ∷ f ∷ []) w ∙ split_wide c f [] wide

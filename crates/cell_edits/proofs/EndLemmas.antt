@@ -12,7 +12,7 @@ use Rattle.cell_base.specs.UpToLast.{up_to_last}
 use Rattle.cell_edits.specs.RowEdits.{is_plain_blank, pruned_row}
 use Rattle.cell_edits.specs.VisibleCells.{mark_cell, VisibleCell, visible_at, visible_from, visible_cells, ends_wrapped, row_of_visible, with_end_wrapped, row_end_wrapped}
 use Rattle.cell_edits.proofs.CutLemmas.{row_narrow_any}
-use Rattle.cell_edits.proofs.CellLemmas.{by_test, row_wide, row_narrow, halved_wide, halved_narrow, halved_more, row_joined}
+use Rattle.cell_edits.proofs.CellLemmas.{by_test, row_wide, row_narrow, split_wide, split_narrow, split_more, row_joined}
 
 -- ---- a list up to its last element that passes a test
 
@@ -50,7 +50,7 @@ pub last_narrow : (cells : List CellContent) (k : ℕ) (d : CellContent) → k <
     → row_of_cells (take (k + 1) cells) ≡ row_of_cells (take k cells) ++ Narrow (get_or cells k d).text (get_or cells k d).attributes ∷ []
 last_narrow cells k d l w v =
     let on : k + 1 ≡ suc k = omega arith in
-    let narrow : nat_le 2 (get_or cells k d).width ≡ false = one (nat_le 2 (get_or cells k d).width) (sym (ap (λ h. if nat_le 2 (get_or cells k d).width then not h else false) v) ∙ sym (halved_more cells k d l) ∙ ap (λ n. ends_split (take n cells)) (sym on) ∙ w) in
+    let narrow : nat_le 2 (get_or cells k d).width ≡ false = one (nat_le 2 (get_or cells k d).width) (sym (ap (λ h. if nat_le 2 (get_or cells k d).width then not h else false) v) ∙ sym (split_more cells k d l) ∙ ap (λ n. ends_split (take n cells)) (sym on) ∙ w) in
     ap row_of_cells (take_more cells k d l) ∙ row_joined (take k cells) (get_or cells k d ∷ []) v
     ∙ ap (λ t. row_of_cells (take k cells) ++ (if t then blank (get_or cells k d).attributes else Narrow (get_or cells k d).text (get_or cells k d).attributes) ∷ []) narrow
   where
@@ -69,10 +69,10 @@ ends_right [] c h = absurd (false≢true h)
 ends_right (x ∷ []) c h = record { prefix = LeftHalf x.text x.attributes ∷ []; attributes = x.attributes; is = row_wide x c [] h }
 ends_right (x ∷ y ∷ ys) c h = by_test (nat_le 2 x.width)
     (λ e.
-    let rest = ends_right ys c (sym (halved_wide x y ys e) ∙ h) in
+    let rest = ends_right ys c (sym (split_wide x y ys e) ∙ h) in
     record { prefix = LeftHalf x.text x.attributes ∷ RightHalf x.attributes ∷ rest.prefix; attributes = rest.attributes; is = row_wide x y (ys ++ c ∷ []) e ∙ ap (λ (r : Row). LeftHalf x.text x.attributes ∷ RightHalf x.attributes ∷ r) rest.is })
     (λ e.
-    let rest = ends_right (y ∷ ys) c (sym (halved_narrow x y ys e) ∙ h) in
+    let rest = ends_right (y ∷ ys) c (sym (split_narrow x y ys e) ∙ h) in
     record { prefix = Narrow x.text x.attributes ∷ rest.prefix; attributes = rest.attributes; is = row_narrow x y (ys ++ c ∷ []) e ∙ ap (λ (r : Row). Narrow x.text x.attributes ∷ r) rest.is })
 
 pub last_right : (cells : List CellContent) (k : ℕ) (d : CellContent) → k < length cells → ends_split (take k cells) ≡ true → EndsRight (row_of_cells (take (k + 1) cells))
@@ -139,12 +139,12 @@ end_is (c ∷ n ∷ m ∷ cs) (suc (suc k)) e = by_test (nat_le 2 c.width)
     ap (λ b. if b then suc (suc (last_read (m ∷ cs))) else suc (last_read (n ∷ m ∷ cs))) t
     ∙ ap (λ x. suc (suc x)) (end_is (m ∷ cs) k (omega arith))
     ∙ two (ends_split (take k (m ∷ cs))) k (some k (m ∷ cs))
-    ∙ ap (λ b. if b then suc (suc k) - 1 else suc (suc k)) (sym (halved_wide c n (take k (m ∷ cs)) t)))
+    ∙ ap (λ b. if b then suc (suc k) - 1 else suc (suc k)) (sym (split_wide c n (take k (m ∷ cs)) t)))
     (λ t.
     ap (λ b. if b then suc (suc (last_read (m ∷ cs))) else suc (last_read (n ∷ m ∷ cs))) t
     ∙ ap suc (end_is (n ∷ m ∷ cs) (suc k) (omega arith))
     ∙ one (ends_split (n ∷ take k (m ∷ cs))) k
-    ∙ ap (λ b. if b then suc (suc k) - 1 else suc (suc k)) (sym (halved_narrow c n (take k (m ∷ cs)) t)))
+    ∙ ap (λ b. if b then suc (suc k) - 1 else suc (suc k)) (sym (split_narrow c n (take k (m ∷ cs)) t)))
   where
     two : (b : Bool) (j : ℕ) → (b ≡ true → 0 < j) → suc (suc (if b then j - 1 else j)) ≡ (if b then suc (suc j) - 1 else suc (suc j))
     two true j h = let p : 0 < j = h refl in omega arith

@@ -162,14 +162,14 @@ pub fitting_none : (cells : List CellContent) → fitting 0 cells ≡ []
 fitting_none [] = refl
 fitting_none (cell ∷ cells) = fitting_stops 0 cell cells (elim (length-cell_columns cell) [ inl e ↦ omega arith | inr e ↦ omega arith ])
 
-pub fitting_front : (room : ℕ) (bytes : List ℕ) (a : Attributes) (cells : List CellContent) → length bytes ≤ room → fitting room (plain_cells bytes a ++ cells) ≡ plain_cells bytes a ++ fitting (room - length bytes) cells
-fitting_front room [] a cells h = let e : room ≡ room - 0 = omega arith in ap (λ n. fitting n cells) e
-fitting_front room (b ∷ bytes) a cells h =
+pub fitting_prefix : (room : ℕ) (bytes : List ℕ) (a : Attributes) (cells : List CellContent) → length bytes ≤ room → fitting room (plain_cells bytes a ++ cells) ≡ plain_cells bytes a ++ fitting (room - length bytes) cells
+fitting_prefix room [] a cells h = let e : room ≡ room - 0 = omega arith in ap (λ n. fitting n cells) e
+fitting_prefix room (b ∷ bytes) a cells h =
     let one = ap length (columns_narrow (cell_of (b ∷ []) 1 a) (plain_narrow b a)) in
     let less : room - length (cell_columns (cell_of (b ∷ []) 1 a)) ≡ room - 1 = ap (λ n. room - n) one in
     let on : room - 1 - length bytes ≡ room - suc (length bytes) = omega arith in
     fitting_cell room (cell_of (b ∷ []) 1 a) (plain_cells bytes a ++ cells) (omega arith)
-    ∙ ap (λ (cs : List CellContent). cell_of (b ∷ []) 1 a ∷ cs) (ap (λ n. fitting n (plain_cells bytes a ++ cells)) less ∙ fitting_front (room - 1) bytes a cells (omega arith) ∙ ap (λ n. plain_cells bytes a ++ fitting n cells) on)
+    ∙ ap (λ (cs : List CellContent). cell_of (b ∷ []) 1 a ∷ cs) (ap (λ n. fitting n (plain_cells bytes a ++ cells)) less ∙ fitting_prefix (room - 1) bytes a cells (omega arith) ∙ ap (λ n. plain_cells bytes a ++ fitting n cells) on)
 
 pub overlaid-append : (row : Row) (at : ℕ) (xs ys : List CellContent) → overlaid row at (xs ++ ys) ≡ overlaid (overlaid row at xs) (at + length (flat_map cell_columns xs)) ys
 overlaid-append row at [] ys = let e : at ≡ at + 0 = omega arith in ap (λ n. overlaid row n ys) e
@@ -199,9 +199,9 @@ module _ (width_of : List ℕ → ℕ) (a : Attributes) where
       let parts = and_parts (is_printable b) (list_all is_printable prefix) p in
       λ i. cell_of (b ∷ []) (n b parts.0 i) a ∷ made_each prefix gs parts.1 n i
 
-  pub cells_front : (text prefix rest : List ℕ) → graphemes true text ≡ each prefix ++ graphemes true rest → list_all is_printable prefix ≡ true → ((byte : ℕ) → is_printable byte ≡ true → width_of (byte ∷ []) ≡ 1)
+  pub cells_prefix : (text prefix rest : List ℕ) → graphemes true text ≡ each prefix ++ graphemes true rest → list_all is_printable prefix ≡ true → ((byte : ℕ) → is_printable byte ≡ true → width_of (byte ∷ []) ≡ 1)
       → text_cells width_of text a ≡ plain_cells prefix a ++ text_cells width_of rest a
-  cells_front text prefix rest e p n =
+  cells_prefix text prefix rest e p n =
       ap (λ gs. map made (map read_cluster gs)) e ∙ ap (map made) (read_each prefix (graphemes true rest) p) ∙ made_each prefix (clusters rest) p n
 
   pub cells_first : (text g rest : List ℕ) → graphemes true text ≡ g ∷ graphemes true rest → graphemes true g ≡ g ∷ [] → text_cells width_of text a ≡ cell_of g (width_of g) a ∷ text_cells width_of rest a
@@ -209,13 +209,13 @@ module _ (width_of : List ℕ → ℕ) (a : Attributes) where
 
   -- ---- steps
 
-  pub leads_front : (row next : Row) (at end : ℕ) (text prefix rest : List ℕ) → at ≤ end → length prefix ≤ end - at → graphemes true text ≡ each prefix ++ graphemes true rest → list_all is_printable prefix ≡ true
+  pub leads_prefix : (row next : Row) (at end : ℕ) (text prefix rest : List ℕ) → at ≤ end → length prefix ≤ end - at → graphemes true text ≡ each prefix ++ graphemes true rest → list_all is_printable prefix ≡ true
       → ((byte : ℕ) → is_printable byte ≡ true → width_of (byte ∷ []) ≡ 1) → next ≡ overlaid row at (plain_cells prefix a) → concat (graphemes true rest) ≡ rest → Leads width_of end a row at text next (at + length prefix) rest
-  leads_front row next at end text prefix rest o l e p n is whole =
-      let cells = cells_front text prefix rest e p n in
+  leads_prefix row next at end text prefix rest o l e p n is whole =
+      let cells = cells_prefix text prefix rest e p n in
       let room : end - at - length prefix ≡ end - (at + length prefix) = omega arith in
       let fit : fitting (end - at) (text_cells width_of text a) ≡ plain_cells prefix a ++ fitting (end - (at + length prefix)) (text_cells width_of rest a) =
-      ap (fitting (end - at)) cells ∙ fitting_front (end - at) prefix a (text_cells width_of rest a) l ∙ ap (λ k. plain_cells prefix a ++ fitting k (text_cells width_of rest a)) room in
+      ap (fitting (end - at)) cells ∙ fitting_prefix (end - at) prefix a (text_cells width_of rest a) l ∙ ap (λ k. plain_cells prefix a ++ fitting k (text_cells width_of rest a)) room in
       let count = plain_count prefix a in
       let on : at + length (flat_map cell_columns (plain_cells prefix a)) ≡ at + length prefix = omega arith in
       let more = length-append (plain_cells prefix a) (fitting (end - (at + length prefix)) (text_cells width_of rest a)) in
@@ -286,8 +286,8 @@ joined_each (b ∷ prefix) gs = ap (λ (bs : List ℕ). b ∷ bs) (joined_each p
 same_after : (prefix xs ys : List ℕ) → prefix ++ xs ≡ prefix ++ ys → xs ≡ ys
 same_after prefix xs ys e = sym (drop_at prefix xs (length prefix) refl) ∙ ap (drop (length prefix)) e ∙ drop_at prefix ys (length prefix) refl
 
-pub rest_front : (text prefix rest : List ℕ) → concat (graphemes true text) ≡ text → text ≡ prefix ++ rest → graphemes true text ≡ each prefix ++ graphemes true rest → concat (graphemes true rest) ≡ rest
-rest_front text prefix rest whole parts e = same_after prefix _ rest (sym (joined_each prefix (graphemes true rest)) ∙ ap concat (sym e) ∙ whole ∙ parts)
+pub rest_prefix : (text prefix rest : List ℕ) → concat (graphemes true text) ≡ text → text ≡ prefix ++ rest → graphemes true text ≡ each prefix ++ graphemes true rest → concat (graphemes true rest) ≡ rest
+rest_prefix text prefix rest whole parts e = same_after prefix _ rest (sym (joined_each prefix (graphemes true rest)) ∙ ap concat (sym e) ∙ whole ∙ parts)
 
 pub rest_first : (text g rest : List ℕ) → concat (graphemes true text) ≡ text → text ≡ g ++ rest → graphemes true text ≡ g ∷ graphemes true rest → concat (graphemes true rest) ≡ rest
 rest_first text g rest whole parts e = same_after g _ rest (ap concat (sym e) ∙ whole ∙ parts)

@@ -7,7 +7,7 @@ use Rattle.cell_base.specs.CellContent.{CellContent, blank_cell, row_of_cells}
 use Rattle.cell_base.specs.Row.{Row}
 use Rattle.cell_edits.specs.CellList.{ends_split}
 use Rattle.cell_edits.specs.ShownCells.{lent_cells}
-use Rattle.cell_edits.proofs.CellLemmas.{by_test, wide_is, narrow_is, row_wide, halved_wide, halved_joined, row_joined}
+use Rattle.cell_edits.proofs.CellLemmas.{by_test, wide_is, narrow_is, row_wide, split_wide, split_joined, row_joined}
 use Rattle.cell_edits.proofs.CutLemmas.{row_narrow_any}
 
 -- the cells before a place are those that are shown there, and with what the cells from there on are shown as they are the whole
@@ -17,10 +17,10 @@ pub record IsSettled (at : ℕ) (now old : List CellContent) : Type 0 where
   pub same : take at now ++ lent_cells (row_of_cells (drop at now)) ≡ lent_cells (row_of_cells old)
 
 -- the list from one of its places on
-from_place : {X : Type 0} (xs : List X) (p : ℕ) (d : X) → p < length xs → drop p xs ≡ get_or xs p d ∷ drop (suc p) xs
-from_place [] p d l = absurd (omega arith)
-from_place (x ∷ xs) zero d l = refl
-from_place (x ∷ xs) (suc p) d l = from_place xs p d (omega arith)
+from_position : {X : Type 0} (xs : List X) (p : ℕ) (d : X) → p < length xs → drop p xs ≡ get_or xs p d ∷ drop (suc p) xs
+from_position [] p d l = absurd (omega arith)
+from_position (x ∷ xs) zero d l = refl
+from_position (x ∷ xs) (suc p) d l = from_position xs p d (omega arith)
 
 abbrev with_width : CellContent → ℕ → CellContent
 with_width c n = record { text = c.text; width = n; attributes = c.attributes }
@@ -41,9 +41,9 @@ settled_narrow old xs p d l some w s =
     let e : nat_le 2 c.width ≡ false = narrow_is c.width w in
     let on : p + 1 ≡ suc p = omega arith in
     let prefix : take (p + 1) xs ≡ take p xs ++ c ∷ [] = take_more xs p d l in
-    let shown : lent_cells (row_of_cells (drop p xs)) ≡ c ∷ lent_cells (row_of_cells cs) = ap (λ (ys : List CellContent). lent_cells (row_of_cells ys)) (from_place xs p d l) ∙ shown_narrow c cs e (omega arith) in
+    let shown : lent_cells (row_of_cells (drop p xs)) ≡ c ∷ lent_cells (row_of_cells cs) = ap (λ (ys : List CellContent). lent_cells (row_of_cells ys)) (from_position xs p d l) ∙ shown_narrow c cs e (omega arith) in
     record {
-      whole = ap ends_split prefix ∙ halved_joined (take p xs) (c ∷ []) s.whole ∙ e;
+      whole = ap ends_split prefix ∙ split_joined (take p xs) (c ∷ []) s.whole ∙ e;
       row = s.row;
       same = (λ i. prefix i ++ lent_cells (row_of_cells (drop (on i) xs))) ∙ append_assoc (take p xs) (c ∷ []) (lent_cells (row_of_cells cs)) ∙ ap (λ (ys : List CellContent). take p xs ++ ys) (sym shown) ∙ s.same;
     }
@@ -61,12 +61,12 @@ settled_wide old xs p d l w most s =
     let prefix : take (p + 1 + 1) new ≡ take p xs ++ c ∷ b ∷ [] =
     take_more_set xs (p + 1) b l ∙ ap (λ (ys : List CellContent). ys ++ b ∷ []) (take_more xs p d (omega arith)) ∙ append_assoc (take p xs) (c ∷ []) (b ∷ []) in
     let back : drop (p + 1 + 1) new ≡ cs = drop-set-lt (p + 1 + 1) xs (p + 1) b (omega arith) ∙ ap (λ m. drop m xs) on in
-    let left : drop p xs ≡ c ∷ n ∷ cs = from_place xs p d (omega arith) ∙ ap (λ (ys : List CellContent). c ∷ ys) (from_place xs (suc p) d (omega arith)) in
+    let left : drop p xs ≡ c ∷ n ∷ cs = from_position xs p d (omega arith) ∙ ap (λ (ys : List CellContent). c ∷ ys) (from_position xs (suc p) d (omega arith)) in
     let shown : lent_cells (row_of_cells (drop p xs)) ≡ c ∷ b ∷ lent_cells (row_of_cells cs) = ap (λ (ys : List CellContent). lent_cells (row_of_cells ys)) left ∙ shown_wide c n cs e (omega arith) in
     let before : xs ≡ take p xs ++ c ∷ n ∷ cs = sym (take-append-drop p xs) ∙ ap (λ (ys : List CellContent). take p xs ++ ys) left in
     let after : new ≡ take p xs ++ c ∷ b ∷ cs = sym (take-append-drop (p + 1 + 1) new) ∙ (λ i. prefix i ++ back i) ∙ append_assoc (take p xs) (c ∷ b ∷ []) cs in
     record {
-      whole = ap ends_split prefix ∙ halved_joined (take p xs) (c ∷ b ∷ []) s.whole ∙ halved_wide c b [] e;
+      whole = ap ends_split prefix ∙ split_joined (take p xs) (c ∷ b ∷ []) s.whole ∙ split_wide c b [] e;
       row = ap row_of_cells after ∙ row_joined (take p xs) (c ∷ b ∷ cs) s.whole ∙ ap (λ (r : Row). row_of_cells (take p xs) ++ r) (row_wide c b cs e ∙ sym (row_wide c n cs e))
           ∙ sym (row_joined (take p xs) (c ∷ n ∷ cs) s.whole) ∙ sym (ap row_of_cells before) ∙ s.row;
       same = (λ i. prefix i ++ lent_cells (row_of_cells (back i))) ∙ append_assoc (take p xs) (c ∷ b ∷ []) (lent_cells (row_of_cells cs)) ∙ ap (λ (ys : List CellContent). take p xs ++ ys) (sym shown) ∙ s.same;
@@ -83,10 +83,10 @@ settled_last old xs p d l w s =
     let all : new ≡ take p xs ++ b ∷ [] = sym (take_all (p + 1) new (omega arith)) ∙ take_more_set xs p b (omega arith) in
     let prefix : take (p + 1 + 1) new ≡ take p xs ++ b ∷ [] = take_all (p + 1 + 1) new (omega arith) ∙ all in
     let none : drop (p + 1 + 1) new ≡ [] = drop_all (p + 1 + 1) new (omega arith) in
-    let left : drop p xs ≡ c ∷ [] = from_place xs p d (omega arith) ∙ ap (λ (ys : List CellContent). c ∷ ys) (drop_all (suc p) xs (omega arith)) in
+    let left : drop p xs ≡ c ∷ [] = from_position xs p d (omega arith) ∙ ap (λ (ys : List CellContent). c ∷ ys) (drop_all (suc p) xs (omega arith)) in
     let before : xs ≡ take p xs ++ c ∷ [] = sym (take-append-drop p xs) ∙ ap (λ (ys : List CellContent). take p xs ++ ys) left in
     record {
-      whole = ap ends_split prefix ∙ halved_joined (take p xs) (b ∷ []) s.whole;
+      whole = ap ends_split prefix ∙ split_joined (take p xs) (b ∷ []) s.whole;
       row = ap row_of_cells all ∙ row_joined (take p xs) (b ∷ []) s.whole ∙ ap (λ (r : Row). row_of_cells (take p xs) ++ r) (sym (shown_last c e))
           ∙ sym (row_joined (take p xs) (c ∷ []) s.whole) ∙ sym (ap row_of_cells before) ∙ s.row;
       same = (λ i. prefix i ++ lent_cells (row_of_cells (none i))) ∙ append_assoc (take p xs) (b ∷ []) [] ∙ ap (λ (ys : List CellContent). take p xs ++ ys) (sym (ap (λ (ys : List CellContent). lent_cells (row_of_cells ys)) left ∙ ap lent_cells (shown_last c e))) ∙ s.same;

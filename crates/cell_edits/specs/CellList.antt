@@ -24,7 +24,7 @@ ends_split [] = false
 ends_split (cell ∷ []) = nat_le 2 cell.width
 ends_split (cell ∷ next ∷ cells) = if nat_le 2 cell.width then ends_split cells else ends_split (next ∷ cells)
 
--- where the last cell that is read stands
+-- the index of the last cell that is read
 abbrev pub last_read : List CellContent → ℕ
 last_read [] = 0
 last_read (cell ∷ []) = 0

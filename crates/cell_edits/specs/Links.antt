@@ -25,6 +25,6 @@ column_with change (Narrow text attributes) = Narrow text (change attributes)
 column_with change (LeftHalf text attributes) = LeftHalf text (change attributes)
 column_with change (RightHalf attributes) = RightHalf (change attributes)
 
--- the same for a cell
+-- the cell less a link found in a text
 abbrev pub cell_without_implicit : CellContent → CellContent
 cell_without_implicit cell = record cell { attributes = without_implicit cell.attributes }

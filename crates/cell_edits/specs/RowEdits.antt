@@ -26,7 +26,7 @@ padded width row = row ++ plain_row (width - length row)
 abbrev pub resized : ℕ → Row → Row
 resized width row = if nat_lt width (length row) then cut width row else padded width row
 
--- the cell stands at a position, which is padded to if it is missing
+-- sets the cell at a position; a row that ends before the cell's end is padded
 abbrev pub with_cell : Row → ℕ → CellContent → Row
 with_cell row at cell = let columns = cell_columns cell in set_columns (padded (at + length columns) row) at columns
 
@@ -34,21 +34,21 @@ with_cell row at cell = let columns = cell_columns cell in set_columns (padded (
 abbrev pub removed : ℕ → Row → Row
 removed at row = cut at row ++ cut_prefix (at + 1) row
 
--- columns stand between the columns before a position and those after it
+-- inserts columns between the columns before a position and the columns after it
 abbrev pub inserted : ℕ → Row → Row → Row
 inserted at columns row = cut at row ++ columns ++ cut_prefix at row
 
--- the last column within the margin goes if it is there, and the cell's columns are inserted at a position, which is
--- padded to
+-- drops the last column within the margin if it is there, and inserts the cell's columns at a position; pads a row that
+-- ends before it
 abbrev pub with_inserted : Row → ℕ → CellContent → ℕ → Row
 with_inserted row at cell margin =
     inserted at (cell_columns cell) (padded at (if nat_le margin (length row) then removed (margin - 1) row else row))
 
--- a column goes, and a plain blank is added
+-- drops a column, and adds a plain blank
 abbrev pub erased : ℕ → Row → Row
 erased at row = removed at row ++ plain_row 1
 
--- a column goes if it is there, and a blank is inserted as the last column within the margin if no column before it is
+-- drops a column if it is there, and inserts a blank as the last column within the margin if no column before it is
 -- missing
 abbrev pub erased_within : Row → ℕ → ℕ → Attributes → Row
 erased_within row at margin attributes =
@@ -70,7 +70,7 @@ abbrev pub overlaid : Row → ℕ → List CellContent → Row
 overlaid row at [] = row
 overlaid row at (cell ∷ cells) = overlaid (with_cell row at cell) (at + length (cell_columns cell)) cells
 
--- a cell set at each of so many columns in turn
+-- a cell set at each of `count` columns in turn
 abbrev pub filled : Row → ℕ → ℕ → CellContent → Row
 filled row at zero cell = row
 filled row at (suc count) cell = with_cell (filled row at count cell) (at + count) cell

@@ -8,7 +8,7 @@ use Rattle.cell_base.specs.Row.{Row}
 use Rattle.cell_edits.specs.CellList.{cell_columns, text_cells}
 use Rattle.cell_edits.specs.RowEdits.{overlaid}
 
--- the cells at the start that fit side by side in so many columns
+-- the cells at the start that fit side by side in `room` columns
 abbrev pub fitting : ℕ → List CellContent → List CellContent
 fitting room [] = []
 fitting room (cell ∷ cells) =
@@ -18,7 +18,7 @@ fitting room (cell ∷ cells) =
 abbrev pub fitting_cells : (List ℕ → ℕ) → ℕ → List ℕ → Attributes → List CellContent
 fitting_cells width_of room text attributes = fitting room (text_cells width_of text attributes)
 
--- what follows so many clusters of a text
+-- the text after its first `count` clusters
 abbrev pub text_after : ℕ → List ℕ → List ℕ
 text_after count text = concat (drop count (graphemes true text))
 
@@ -26,25 +26,25 @@ text_after count text = concat (drop count (graphemes true text))
 abbrev pub text_on : (List ℕ → ℕ) → ℕ → Attributes → Row → ℕ → List ℕ → Row
 text_on width_of end attributes row at text = overlaid row at (fitting_cells width_of (end - at) text attributes)
 
--- the text that is left then
+-- the rest of the text then
 abbrev pub text_left : (List ℕ → ℕ) → ℕ → Attributes → ℕ → List ℕ → List ℕ
 text_left width_of end attributes at text = text_after (length (fitting_cells width_of (end - at) text attributes)) text
 
 -- the column after the cells of a text that fit
-abbrev pub place_after : (List ℕ → ℕ) → ℕ → Attributes → ℕ → List ℕ → ℕ
-place_after width_of end attributes at text =
+abbrev pub position_after : (List ℕ → ℕ) → ℕ → Attributes → ℕ → List ℕ → ℕ
+position_after width_of end attributes at text =
     at + length (flat_map cell_columns (fitting_cells width_of (end - at) text attributes))
 
 -- a cell of one column for each byte
 abbrev pub plain_cells : List ℕ → Attributes → List CellContent
 plain_cells text attributes = map (λ byte. cell_of (byte ∷ []) 1 attributes) text
 
--- a step leads on: from a row, a column and a text to others from which the whole comes out the same
+-- a step leads on: from a row, a column and a text to a next row, position and rest with the same overall result
 pub record Leads (width_of : List ℕ → ℕ) (end : ℕ) (attributes : Attributes) (row : Row) (at : ℕ) (text : List ℕ)
     (next : Row) (position : ℕ) (rest : List ℕ) : Type 0 where
   pub columns : text_on width_of end attributes next position rest ≡ text_on width_of end attributes row at text
   pub left : text_left width_of end attributes position rest ≡ text_left width_of end attributes at text
-  pub after : place_after width_of end attributes position rest ≡ place_after width_of end attributes at text
+  pub after : position_after width_of end attributes position rest ≡ position_after width_of end attributes at text
   pub order : at ≤ position
   pub within : position ≤ end
   pub whole : concat (graphemes true rest) ≡ rest
@@ -54,4 +54,4 @@ pub record Stops (width_of : List ℕ → ℕ) (end : ℕ) (attributes : Attribu
     0 where
   pub columns : text_on width_of end attributes row at text ≡ row
   pub left : text_left width_of end attributes at text ≡ text
-  pub after : place_after width_of end attributes at text ≡ at
+  pub after : position_after width_of end attributes at text ≡ at

@@ -1,4 +1,4 @@
--- The visible cells of a row, and what is asked of them.
+-- The visible cells of a row, and queries on them.
 use Rattle.std.specs.Prelude.{ℕ, ◌+◌, Bool, false, ◌&&◌, ◌==◌, nat_lt, nat_le, List, [], ◌∷◌, Option, Some, None, find}
 use Rattle.std.specs.Prelude.{filter, fold, map, is_some}
 use Rattle.std.specs.List.{flat_map, list_any, list_all}
@@ -61,7 +61,7 @@ cell_at column row = find (λ v. v.column == column) (visible_cells row)
 abbrev pub cells_between : ℕ → ℕ → Row → List VisibleCell
 cells_between start end row = filter (λ v. nat_le start v.column && nat_lt v.column end) (visible_cells row)
 
--- what stands in cells, wherever they stand
+-- the contents of cells, without their columns
 abbrev pub contents : List VisibleCell → List CellContent
 contents cells = map (λ v. v.cell) cells
 

@@ -1,5 +1,5 @@
 //! Steps on the cells of a line, which are read from the left: the cell stored after a wide one
-//! isn't looked at.
+//! is ignored.
 ghost use Rattle.std.specs.Prelude.{◌≡◌, ℕ, ◌+◌, ◌-◌, ◌≤◌, ◌<◌, ◌++◌, ◌&&◌, true, false, length, take, drop, [], ◌∷◌};
 ghost use Rattle.std.specs.Prelude.{slice_set, replicate, map, vec_len, nat_lt, if◌then◌else◌, OnOk, OnErr, IfOk};
 ghost use Rattle.cell_base.specs.CellContent.{row_of_cells, blank_cell};
@@ -31,16 +31,16 @@ pub fn is_split(cells: &[Cell], at: usize) -> bool
     requires { at ≤ length cells.now }
     ensures { result ≡ ends_split (take at cells.now) }
 {
-    let mut halved = false;
+    let mut was_split = false;
     let mut position = at;
     while position > 0 && cells[position - 1].width() >= 2 {
-        halved = !halved;
+        was_split = !was_split;
         position -= 1;
     }
-    halved
+    was_split
 }
 
-/// Where the cell that is read last stands. Only the wide cells right before the end are looked at.
+/// The index of the cell that is read last. Of the cells it reads only the wide ones right before the end.
 pub fn last_read(cells: &[Cell]) -> usize
     requires { 0 < length cells.now }
     ensures within { result < length cells.now }
@@ -54,7 +54,7 @@ pub fn last_read(cells: &[Cell]) -> usize
     }
 }
 
-// The cell takes the place of the one that is there.
+// Replaces the cell at `at`.
 pub(crate) fn put(cells: &mut Vec<Cell>, at: usize, cell: Cell)
     requires { at < vec_len cells.old }
     ensures { cells.new.items ≡ slice_set cells.old.items at cell }
@@ -83,7 +83,7 @@ fn split_cell(cells: &mut Vec<Cell>, at: usize) -> Result<(), AllocError>
     Ok(())
 }
 
-// A wide cell whose columns stand on both sides of `at` becomes two blanks.
+// A wide cell whose second column is `at` becomes two blanks.
 #[inline(always)]
 fn cut_at(cells: &mut Vec<Cell>, at: usize) -> Result<(), AllocError>
     requires { at ≤ vec_len cells.old }
@@ -100,7 +100,7 @@ fn cut_at(cells: &mut Vec<Cell>, at: usize) -> Result<(), AllocError>
     Ok(())
 }
 
-// Wide cells whose columns stand on both sides of `start`, or of `end`, become blanks.
+// Wide cells whose second column is `start`, or `end`, become blanks.
 #[inline(always)]
 pub(crate) fn open(cells: &mut Vec<Cell>, start: usize, end: usize) -> Result<(), AllocError>
     requires order { start ≤ end }
@@ -135,7 +135,7 @@ pub(crate) fn write_cell(cells: &mut Vec<Cell>, at: usize, cell: Cell) -> Result
     Ok(())
 }
 
-// The cell's columns come between those before `at` and those from `at` on.
+// Inserts the cell's columns between the columns before `at` and the columns from `at` on.
 pub(crate) fn insert_columns(cells: &mut Vec<Cell>, at: usize, cell: Cell) -> Result<(), AllocError>
     requires { at ≤ vec_len cells.old }
     ensures { OnOk result
@@ -149,7 +149,7 @@ pub(crate) fn insert_columns(cells: &mut Vec<Cell>, at: usize, cell: Cell) -> Re
     Ok(())
 }
 
-/// The column at `at` goes.
+/// Drops the column at `at`.
 pub fn remove_column(cells: &mut Vec<Cell>, at: usize) -> Result<(), AllocError>
     requires { at < vec_len cells.old }
     ensures len { OnOk result (vec_len cells.new + 1 ≡ vec_len cells.old) }
@@ -205,7 +205,7 @@ pub fn resize(cells: &mut Vec<Cell>, width: usize) -> Result<(), AllocError>
     }
 }
 
-/// The cell stands at `at`, which is padded to.
+/// Sets the cell at `at`; a row that ends before the cell's end is padded first.
 pub fn set_cell(cells: &mut Vec<Cell>, at: usize, cell: Cell) -> Result<(), AllocError>
     ensures { OnOk result (row_of_cells cells.new.items ≡ with_cell (row_of_cells cells.old.items) at cell) }
 {
@@ -238,7 +238,7 @@ pub(crate) fn push_blanks_with(
     Ok(())
 }
 
-/// The row is cut, and what stood from there on is answered.
+/// Cuts the row at `at`, and returns the cells from there on.
 pub fn split_off(cells: &mut Vec<Cell>, at: usize) -> Result<Vec<Cell>, AllocError>
     requires { at ≤ vec_len cells.old }
     ensures kept { OnOk result (row_of_cells cells.new.items ≡ cut at (row_of_cells cells.old.items)) }
@@ -258,8 +258,8 @@ pub fn append(cells: &mut Vec<Cell>, mut other: Vec<Cell>) -> Result<(), AllocEr
     Ok(())
 }
 
-/// The last column before the margin goes, if the row reaches that far, and the cell is inserted at `x`, which is
-/// padded to.
+/// Drops the last column before the margin, if the row reaches that far, and inserts the cell at `x`; pads a row that
+/// ends before `x`.
 pub fn insert_cell(
     cells: &mut Vec<Cell>,
     x: usize,
@@ -278,7 +278,7 @@ pub fn insert_cell(
     Ok(())
 }
 
-/// The column at `at` goes, and a plain blank is added.
+/// Drops the column at `at`, and adds a plain blank.
 pub fn erase_column(cells: &mut Vec<Cell>, at: usize) -> Result<(), AllocError>
     requires { at < vec_len cells.old }
     ensures { OnOk result (row_of_cells cells.new.items ≡ erased at (row_of_cells cells.old.items)) }
@@ -290,8 +290,8 @@ pub fn erase_column(cells: &mut Vec<Cell>, at: usize) -> Result<(), AllocError>
     Ok(())
 }
 
-/// The column at `x` goes if it is there, and a blank is inserted at the margin if the row reaches
-/// to it.
+/// Drops the column at `x` if it is there, and inserts a blank at the margin if the row reaches to
+/// it.
 pub fn erase_within(
     cells: &mut Vec<Cell>,
     x: usize,
@@ -311,7 +311,7 @@ pub fn erase_within(
     Ok(())
 }
 
-/// The cell's columns follow those that are there.
+/// Appends the cell's columns to the row.
 pub fn push_cell(cells: &mut Vec<Cell>, cell: Cell) -> Result<(), AllocError>
     requires { ends_split cells.old.items ≡ false }
     ensures whole { OnOk result (ends_split cells.new.items ≡ false) }
@@ -402,7 +402,7 @@ fn pruned_width(cells: &[Cell]) -> usize
     width
 }
 
-/// The plain blanks at the end go, unless nothing would be left; answers whether something is.
+/// Drops the plain blanks at the end, unless nothing would be left; returns whether something is.
 pub fn prune(cells: &mut Vec<Cell>) -> Result<bool, AllocError>
     ensures none { IfOk result
         (λ some. some ≡ false
@@ -453,7 +453,7 @@ pub fn has_implicit(attrs: &CellAttributes) -> bool
     }
 }
 
-// A link that was found in a text goes.
+// Drops a link that was found in a text.
 fn drop_implicit(cell: &mut Cell)
     ensures { cell.new ≡ cell_without_implicit cell.old }
 {
@@ -464,7 +464,7 @@ fn drop_implicit(cell: &mut Cell)
     }
 }
 
-/// Links that were found in a text go from every cell.
+/// Drops links that were found in a text from every cell.
 pub fn drop_implicit_links(cells: &mut [Cell])
     ensures { cells.new ≡ map cell_without_implicit cells.old }
 {

@@ -8,7 +8,7 @@ ghost use Rattle.cell_base.specs.CellContent.{row_of_cells, blank_cell, cell_of,
 ghost use Rattle.cell_base.specs.Row.{set_columns, blank};
 ghost use Rattle.cell_edits.specs.CellList.{cell_columns, ends_split};
 ghost use Rattle.cell_edits.specs.RowEdits.{overlaid};
-ghost use Rattle.cell_edits.specs.TextRuns.{place_after, plain_cells, text_on, text_left, Leads, Stops};
+ghost use Rattle.cell_edits.specs.TextRuns.{position_after, plain_cells, text_on, text_left, Leads, Stops};
 
 use crate::row::{open, push_blanks_with};
 use cell_base::{Cell, CellAttributes, Widths};
@@ -60,7 +60,7 @@ fn put_cluster(
     cells[at].set_grapheme_with_width(alloc, cluster, width, attrs)
 }
 
-// Blanks stand in the places of a range.
+// Sets the cells of `start..end` to blanks.
 fn write_blanks(
     cells: &mut Vec<Cell>,
     start: usize,
@@ -99,7 +99,7 @@ pub fn set_blanks(
     Ok(())
 }
 
-/// So many blanks stand in place of all cells.
+/// Replaces all cells by `width` blanks.
 pub fn clear(cells: &mut Vec<Cell>, width: usize, attrs: &CellAttributes) -> Result<(), AllocError>
     ensures { OnOk result (cells.new.items ≡ replicate width (blank_cell attrs.now)) }
 {
@@ -112,7 +112,7 @@ pub fn clear(cells: &mut Vec<Cell>, width: usize, attrs: &CellAttributes) -> Res
     Ok(())
 }
 
-// Cells of one printable character each stand from a position on.
+// Sets the cells from `start` on to one printable character of `bytes` each.
 #[inline(always)]
 fn write_plain(
     cells: &mut Vec<Cell>,
@@ -195,7 +195,7 @@ fn write_cluster(
     Ok(())
 }
 
-// Sets the first cluster of a text if it fits before `end`; answers the next column and the rest.
+// Sets the first cluster of a text if it fits before `end`; returns the next column and the rest.
 fn set_first_cluster<'a, W: Widths>(
     alloc: Global,
     cells: &mut Vec<Cell>,
@@ -234,7 +234,7 @@ fn set_first_cluster<'a, W: Widths>(
     Ok(Some((at + count, rest)))
 }
 
-/// Sets each cluster of a text side by side from `start` on, as far as they fit before `end`; answers
+/// Sets each cluster of a text side by side from `start` on, as far as they fit before `end`; returns
 /// the column after them and the text that is left.
 pub fn set_text<'a, W: Widths>(
     alloc: Global,
@@ -250,7 +250,7 @@ pub fn set_text<'a, W: Widths>(
     ensures row { OnOk result
         (row_of_cells cells.new.items
         ≡ text_on (W.width_of w.now) end attrs.now (row_of_cells cells.old.items) start text.now) }
-    ensures after { IfOk result (λ r. r.0 ≡ place_after (W.width_of w.now) end attrs.now start text.now) }
+    ensures after { IfOk result (λ r. r.0 ≡ position_after (W.width_of w.now) end attrs.now start text.now) }
     ensures left { IfOk result (λ r. r.1.now ≡ text_left (W.width_of w.now) end attrs.now start text.now) }
 {
     let mut at = start;

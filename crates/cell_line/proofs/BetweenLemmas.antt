@@ -12,13 +12,13 @@ use Rattle.cell_base.specs.Row.{Narrow, LeftHalf, RightHalf, Row, space, blank}
 use Rattle.cell_edits.specs.CellList.{ends_split}
 use Rattle.cell_edits.specs.CellList.{cell_columns}
 use Rattle.cell_edits.specs.VisibleCells.{VisibleCell, visible_at, visible_from, visible_cells, cells_between, row_of_visible}
-use Rattle.cell_edits.proofs.CellLemmas.{by_test, halved_more, row_joined, length-row}
+use Rattle.cell_edits.proofs.CellLemmas.{by_test, split_more, row_joined, length-row}
 
-pub halved_some : (cells : List CellContent) (n : ℕ) → n ≡ length cells → ends_split (take n cells) ≡ true → 0 < n
-halved_some [] zero e h = absurd (false≢true h)
-halved_some [] (suc n) e h = omega arith
-halved_some (c ∷ cells) zero e h = absurd (omega arith)
-halved_some (c ∷ cells) (suc n) e h = omega arith
+pub split_some : (cells : List CellContent) (n : ℕ) → n ≡ length cells → ends_split (take n cells) ≡ true → 0 < n
+split_some [] zero e h = absurd (false≢true h)
+split_some [] (suc n) e h = omega arith
+split_some (c ∷ cells) zero e h = absurd (omega arith)
+split_some (c ∷ cells) (suc n) e h = omega arith
 
 -- the last cell is a wide one, and those before it are whole
 last_parts : (wide before : Bool) → (if wide then not before else false) ≡ true → (wide ≡ true) × (before ≡ false)
@@ -26,11 +26,11 @@ last_parts true false e = (refl, refl)
 last_parts true true e = absurd (false≢true e)
 last_parts false before e = absurd (false≢true e)
 
-pub halved_last : (cells : List CellContent) (n m : ℕ) (d : CellContent) → n ≡ length cells → m ≡ n - 1 → ends_split (take n cells) ≡ true → (nat_le 2 (get_or cells m d).width ≡ true) × (ends_split (take m cells) ≡ false)
-halved_last cells n m d e on h =
-    let some = halved_some cells n e h in
+pub split_last : (cells : List CellContent) (n m : ℕ) (d : CellContent) → n ≡ length cells → m ≡ n - 1 → ends_split (take n cells) ≡ true → (nat_le 2 (get_or cells m d).width ≡ true) × (ends_split (take m cells) ≡ false)
+split_last cells n m d e on h =
+    let some = split_some cells n e h in
     let next : suc m ≡ n = omega arith in
-    last_parts (nat_le 2 (get_or cells m d).width) (ends_split (take m cells)) (sym (halved_more cells m d (omega arith)) ∙ ap (λ k. ends_split (take k cells)) next ∙ h)
+    last_parts (nat_le 2 (get_or cells m d).width) (ends_split (take m cells)) (sym (split_more cells m d (omega arith)) ∙ ap (λ k. ends_split (take k cells)) next ∙ h)
 
 visible_last : (i : ℕ) (row : Row) (a : Attributes) → visible_from i (row ++ blank a ∷ []) ≡ visible_from i row ++ visible_at (i + length row) space 1 a ∷ []
 visible_last i [] a = let on : i ≡ i + 0 = omega arith in ap (λ k. visible_at k space 1 a ∷ []) on
@@ -52,8 +52,8 @@ between_last cells n m start end d e on h =
     let x : CellContent = get_or cells m d in
     let a = x.attributes in
     let p : VisibleCell → Bool = λ v. nat_le start v.column && nat_lt v.column end in
-    let some = halved_some cells n e h in
-    let parts = halved_last cells n m d e on h in
+    let some = split_some cells n e h in
+    let parts = split_last cells n m d e on h in
     let prefix = take m cells in
     let columns : Row = row_of_cells prefix in
     let long : length columns ≡ m = length-row prefix ∙ length-take-le m cells (omega arith) in

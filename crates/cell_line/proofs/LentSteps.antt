@@ -155,11 +155,11 @@ module _ {M : Type 1} {𝓤 : Ura M} (𝓛 : Logic 𝓤) (at_mem : Memory → SP
     Same a = IfOk a Shown
 
     -- what `settled_cells` ensures, and `slice_of`
-    abbrev pub Told : Answered.Denot → SProp 𝓤
-    Told a = (settled.spec 𝓛 at_mem run (κ, tt) (self, tt)).ensures tt a
+    abbrev pub Ensured : Answered.Denot → SProp 𝓤
+    Ensured a = (settled.spec 𝓛 at_mem run (κ, tt) (self, tt)).ensures tt a
 
-    pub told : (a : Answered.Denot) → ent 𝓤 (Told a) (mean 𝓛 (given (Same a) (‵ (LendsStored self a))))
-    told a = ex_e 𝓤 _ (λ ws. via 𝓤 (sep 𝓤 (sem 𝓛 (LendsStored self a)) (fact 𝓤 (Same a))) (snd∗ 𝓤 (sem 𝓛 (lasts settled.ended (κ, tt) (self, tt) ws)) (sep 𝓤 (sem 𝓛 (LendsStored self a)) (fact 𝓤 (Same a))))
+    pub ensured : (a : Answered.Denot) → ent 𝓤 (Ensured a) (mean 𝓛 (given (Same a) (‵ (LendsStored self a))))
+    ensured a = ex_e 𝓤 _ (λ ws. via 𝓤 (sep 𝓤 (sem 𝓛 (LendsStored self a)) (fact 𝓤 (Same a))) (snd∗ 𝓤 (sem 𝓛 (lasts settled.ended (κ, tt) (self, tt) ws)) (sep 𝓤 (sem 𝓛 (LendsStored self a)) (fact 𝓤 (Same a))))
         (needs 𝓤 (Same a) (sem 𝓛 (LendsStored self a)) (λ e. qed 𝓛 (‵ (LendsStored self a) ∷ []) ∵ check ! e $ done !)))
 
     abbrev pub Sliced : MutBor (Vec CellContent) → MutBor (List CellContent) → SProp 𝓤

@@ -12,13 +12,13 @@ use Rattle.std.specs.contracts.vec.Vec.{the_row as vec}
 use Rattle.std.specs.contracts.alloc.Global.{the_row as global}
 use Rattle.std.specs.contracts.impls.GlobalAllocator.TheImpl.{ghosts}
 
--- the line ends with the cells that were last written over those that it lent, one for each column; at `Err` it stays
+-- the line ends with the cells last written through the borrow, one for each column; at `Err` it stays as it was
 abbrev pub LendsCells : {E : Type 0} → MutBor LineContent → Result (MutBor (List CellContent)) E → Fml
 LendsCells s r =
     LendsSoOk line (Array cell 0) s r (λ new cells. length cells ≡ length s.now.columns → new ≡ cells_mut s.now cells)
     (λ new. new ≡ s.now)
 
--- the same for the vector that holds them
+-- as `LendsCells`, for the vector that holds the cells
 abbrev pub LendsStored : {E : Type 0} → MutBor LineContent → Result (MutBor (Vec CellContent)) E → Fml
 LendsStored s r = LendsIfOk line (vec cell global ghosts) s r (λ cells. cells_mut s.now cells.items) s.now
 

@@ -1,8 +1,8 @@
--- What each call of `Line` gives, under the call's own name: a question's answer, and where a call changes the line,
--- the line that it leaves. A call that is given a number makes it the line's if it is the later one (`changed`), unless
--- something else is said here; and it keeps the line clustered, or one of cells, as it was. A half of a wide cell that
--- is left alone becomes a blank with that cell's attributes: the words for rows (`RowEdits`) see to it. A margin counts
--- columns, so the last column within it is the margin less one.
+-- What each call of `Line` gives, under the call's own name: a query's result, and where a call changes the line, the
+-- line that it leaves. A call with a number makes it the line's if it is the later one (`changed`), unless its comment
+-- here says otherwise; and it keeps the line clustered, or one of cells, as it was. A half of a wide cell that is left
+-- alone becomes a blank with that cell's attributes, by the definitions for rows (`RowEdits`). A margin counts columns,
+-- so the last column within it is the margin less one.
 use Rattle.std.specs.Prelude.{ℕ, ◌-◌, Bool, true, false, ◌&&◌, ◌||◌, ◌==◌, nat_lt, max, min, List, [], ◌∷◌, ◌++◌}
 use Rattle.std.specs.Prelude.{length, map, replicate, Option, if◌then◌else◌}
 use Rattle.cell_base.specs.declared.attributes.LineAttribute.TheVariants.{SingleWidthLine, DoubleWidthLine}
@@ -22,7 +22,7 @@ use Rattle.cell_edits.specs.CellList.{text_cells, text_row}
 use Rattle.cell_views.specs.Region.{region}
 use Rattle.cell_edits.specs.RowEdits.{cut, cut_prefix, resized, with_cell, overlaid, with_inserted, removed, erased}
 use Rattle.cell_edits.specs.RowEdits.{erased_within, pruned_row, filled}
-use Rattle.cell_edits.specs.TextRuns.{fitting_cells, place_after, plain_cells, text_on}
+use Rattle.cell_edits.specs.TextRuns.{fitting_cells, position_after, plain_cells, text_on}
 use Rattle.cell_edits.specs.VisibleCells.{VisibleCell, contents, visible_cells as visible, texts_joined, cells_between}
 use Rattle.cell_edits.specs.VisibleCells.{row_of_visible, cell_at, has_link, is_whitespace_row, ends_wrapped}
 use Rattle.cell_edits.specs.VisibleCells.{row_end_wrapped}
@@ -32,17 +32,17 @@ use Rattle.cell_edits.specs.Links.{has_implicit_link, without_implicit, column_w
 use Rattle.cell_views.specs.Words.{double_click_range}
 use Rattle.cell_views.specs.Clusters.{ClusterContent, cell_clusters}
 
--- ---- makers: each line has the number that is given and no bits, and is one of cells unless something else is said
+-- ---- makers: each line has the given number and no bits, and is one of cells unless its comment says otherwise
 
--- so many such cells, read from the left: of a wide cell that many columns
+-- `width` copies of a cell, read from the left: of a wide cell `width` columns
 abbrev pub with_width_and_cell : ℕ → CellContent → ℕ → LineContent
 with_width_and_cell width cell number = line_of number (row_of_cells (replicate width cell))
 
--- so many plain blanks
+-- `width` plain blanks
 abbrev pub with_width : ℕ → ℕ → LineContent
 with_width width number = line_of number (plain_row width)
 
--- so many plain blanks, clustered
+-- `width` plain blanks, clustered
 abbrev pub with_width_clustered : ℕ → ℕ → LineContent
 with_width_clustered width number = clustered_line_of number (plain_row width)
 
@@ -58,7 +58,7 @@ new number = clustered_line_of number []
 abbrev pub from_text : List ℕ → Attributes → ℕ → (List ℕ → ℕ) → LineContent
 from_text text attributes number width_of = line_of number (text_row width_of text attributes)
 
--- the same, and the line goes on after its last visible cell
+-- as `from_text`, and the line goes on after its last visible cell
 abbrev pub from_text_with_wrapped_last_col : List ℕ → Attributes → ℕ → (List ℕ → ℕ) → LineContent
 from_text_with_wrapped_last_col text attributes number width_of =
     line_of number (row_end_wrapped true (text_row width_of text attributes))
@@ -73,14 +73,14 @@ try_from_text text width_of = line_of 0 (text_row width_of text plain)
 abbrev pub resize : LineContent → ℕ → ℕ → LineContent
 resize line width number = changed line number (resized width line.columns)
 
--- so many blanks with these attributes, and no bits
+-- `width` blanks with these attributes, and no bits
 abbrev pub resize_and_clear : LineContent → ℕ → ℕ → Attributes → LineContent
 resize_and_clear line width number attributes =
     record (changed line number (replicate width (blank attributes))) { bits = SingleWidthLine }
 
--- a line with no text but spaces stays as it is, alone; of another the cells after the last text that isn't one space
--- go, and the rest stand in rows, each a line of cells with this number and no bits: a cell begins a new row where the
--- row would pass the width, unless it is the row's first, and the last cell of each row but the last one is wrapped
+-- a line whose texts are all spaces stays as it is, alone; any other loses the cells after the last text that isn't one
+-- space, and the rest go into rows, each a line of cells with this number and no bits: a cell begins a new row where
+-- the row would pass the width, unless it is the row's first, and the last cell of each row but the last one is wrapped
 abbrev pub wrap : LineContent → ℕ → ℕ → List LineContent
 wrap line width number =
     if is_whitespace_row line.columns then line ∷ []
@@ -146,7 +146,7 @@ invalidate_implicit_hyperlinks line number =
 abbrev pub split_off_kept : LineContent → ℕ → LineContent
 split_off_kept line at = record line { columns = cut (min at (length line.columns)) line.columns }
 
--- and what is answered: the columns from there on, as a line of cells with this number and the same bits
+-- and the result: the columns from there on, as a line of cells with this number and the same bits
 abbrev pub split_off : LineContent → ℕ → ℕ → LineContent
 split_off line at number =
     record line { number = number; columns = cut_prefix (min at (length line.columns)) line.columns; clustered = false }
@@ -175,19 +175,19 @@ columns_as_line line start end = line_of line.number (row_of_visible (cells_betw
 
 -- ---- setting
 
--- padded with plain blanks to the end of the cell, whose columns then stand from this position on
+-- pads the line with plain blanks to the end of the cell, and sets the cell's columns from this position on
 abbrev pub set_cell : LineContent → ℕ → CellContent → ℕ → LineContent
 set_cell line at cell number = changed line number (with_cell line.columns at cell)
 
--- the same
+-- as `set_cell`
 abbrev pub set_cell_clearing_image_placements : LineContent → ℕ → CellContent → ℕ → LineContent
 set_cell_clearing_image_placements line at cell number = set_cell line at cell number
 
--- the same for the cell of a text, a width and attributes
+-- as `set_cell`, for the cell of a text, a width and attributes
 abbrev pub set_cell_grapheme : LineContent → ℕ → List ℕ → ℕ → Attributes → ℕ → LineContent
 set_cell_grapheme line at text width attributes number = set_cell line at (cell_of text width attributes) number
 
--- the same for a cell with these attributes for each cluster of a text, side by side from this position on
+-- sets a cell with these attributes for each cluster of a text, side by side from this position on, as `set_cell` does
 abbrev pub overlay_text_with_attribute : LineContent → ℕ → List ℕ → Attributes → ℕ → (List ℕ → ℕ) → LineContent
 overlay_text_with_attribute line at text attributes number width_of =
     changed line number (overlaid line.columns at (text_cells width_of text attributes))
@@ -205,7 +205,7 @@ set_text line start end text attributes width_of =
 
 -- the column after the cells that `set_text` sets
 abbrev pub set_text_end : ℕ → ℕ → List ℕ → Attributes → (List ℕ → ℕ) → ℕ
-set_text_end start end text attributes width_of = place_after width_of end attributes start text
+set_text_end start end text attributes width_of = position_after width_of end attributes start text
 
 -- how many of the text's clusters `set_text` sets
 abbrev pub set_clusters : ℕ → ℕ → List ℕ → Attributes → (List ℕ → ℕ) → ℕ
@@ -227,7 +227,7 @@ abbrev pub remove_cell : LineContent → ℕ → ℕ → LineContent
 remove_cell line at number =
     if nat_lt at (length line.columns) then changed line number (removed at line.columns) else line
 
--- the same, and a plain blank is added at the end
+-- as `remove_cell`, and a plain blank is added at the end
 abbrev pub erase_cell : LineContent → ℕ → ℕ → LineContent
 erase_cell line at number =
     if nat_lt at (length line.columns) then changed line number (erased at line.columns) else line
@@ -283,9 +283,9 @@ abbrev pub cluster : LineContent → List ClusterContent
 cluster line = cell_clusters (visible line.columns)
 
 -- the changes that write the line with these attributes in force at first, on blanks: each run of visible cells of
--- equal attributes has its attributes, unless they are in force, and then its texts; in place of blanks at the end,
--- plain but for one background, their attributes stand, where other cells stand before them, and a clear to the end of
--- the line, unless the background is the default
+-- equal attributes has its attributes, unless they are in force, and then its texts; blanks at the end, plain except
+-- for one background, are replaced by their attributes, where other cells precede them, and a clear to the end of the
+-- line, unless the background is the default
 abbrev pub changes : LineContent → Attributes → List ChangeValue
 changes line start = row_written start (contents (visible line.columns))
 
@@ -309,9 +309,9 @@ last_cell_was_wrapped line = ends_wrapped (visible line.columns)
 abbrev pub set_last_cell_was_wrapped : LineContent → Bool → ℕ → LineContent
 set_last_cell_was_wrapped line wrapped number = changed line number (row_end_wrapped wrapped line.columns)
 
--- ---- lent cells
+-- ---- borrowed cells
 
--- the cells that are left where they were lent, one for each column, are read from the left again, and the line is one
--- of cells; number and bits stay. `cells_mut_for_attr_changes_only` gives the same
+-- the cells that the borrow leaves, one for each column, are read from the left again, and the line is one of cells;
+-- number and bits stay. `cells_mut_for_attr_changes_only` gives the same
 abbrev pub cells_mut : LineContent → List CellContent → LineContent
 cells_mut line cells = record line { columns = row_of_cells cells; clustered = false }

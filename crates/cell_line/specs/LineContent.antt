@@ -7,8 +7,8 @@ use Rattle.cell_base.specs.declared.attributes.LineAttribute.TheVariants.{Double
 use Rattle.cell_base.specs.Row.{Row}
 
 -- the number of its last change, its bits (a line of single width has none), its columns, and whether it is clustered:
--- kept as one text and runs of equal attributes, and not as cells. What that means, `IsKept` says of what `stored`
--- lends
+-- kept as one text and runs of equal attributes, and not as cells. `IsKept` defines this for the borrow that `stored`
+-- returns
 pub record LineContent : Type 0 where
   pub number : ℕ
   pub bits : LineAttribute
@@ -39,12 +39,12 @@ pub record SameShown (one other : LineContent) : Type 0 where
 abbrev pub changed : LineContent → ℕ → Row → LineContent
 changed line number columns = record line { number = max line.number number; columns = columns }
 
--- the same, but where no column would be left the line stays as it was
+-- as `changed`, except that the line stays as it was where no column would be left
 abbrev pub changed_unless_empty : LineContent → ℕ → Row → LineContent
 changed_unless_empty line number [] = line
 changed_unless_empty line number (column ∷ row) = changed line number (column ∷ row)
 
--- what a refused call leaves: the same number and bits; of the columns nothing is said, nor of how they are kept
+-- what a refused call leaves: the same number and bits; the columns, and how they are kept, are unspecified
 pub record IsRefused (before after : LineContent) : Type 0 where
   pub number : after.number ≡ before.number
   pub bits : after.bits ≡ before.bits

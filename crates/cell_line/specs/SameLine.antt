@@ -1,4 +1,4 @@
--- When two lines are equal: what they show is, however they are kept.
+-- When two lines are equal: where they show the same, however they are kept.
 use Rattle.std.specs.Prelude.{Bool, false}
 use Rattle.std.specs.Bool.{Decides}
 use Rattle.std.specs.Cmp.{IsEquivalence}

@@ -27,7 +27,7 @@ fn blank_attrs(color: ColorAttribute) -> CellAttributes
     attrs
 }
 
-// Whether the cell is one space, plain but for this background.
+// Whether the cell is one space, plain except for this background.
 #[tactic(auto, unfolding(screen_change::specs::CellRuns::is_blank_of))]
 fn is_blank_of(color: ColorAttribute, cell: &CellRef<'_>) -> bool
     ensures { result ≡ is_blank_of color (shown_by cell.now).cell }
@@ -35,7 +35,7 @@ fn is_blank_of(color: ColorAttribute, cell: &CellRef<'_>) -> bool
     is_space(cell.str()) && *cell.attrs() == blank_attrs(color)
 }
 
-// The background of a cell that is one space, plain but for its background.
+// The background of a cell that is one space, plain except for its background.
 fn background_of(cell: &CellRef<'_>) -> Option<ColorAttribute>
     ensures { result ≡ background_of (shown_by cell.now).cell }
 {

@@ -8,14 +8,14 @@ use cell_base::{Cell, CellAttributes};
 use clustered_row::ClusteredRow;
 use std::alloc::{AllocError, Global};
 
-// No column is left, and no memory.
+// Drops all columns, and their memory.
 pub(crate) fn forget(alloc: Global, row: &mut ClusteredRow)
     ensures { row.new ≡ [] }
 {
     *row = ClusteredRow::new(alloc, 0);
 }
 
-// Plain blanks follow, where the row doesn't reach so far.
+// Appends plain blanks up to `width` columns, where the row has fewer.
 #[inline(always)]
 fn pad(row: &mut ClusteredRow, width: usize) -> Result<(), AllocError>
     ensures row { OnOk result (row.new ≡ padded width row.old) }
@@ -27,7 +27,7 @@ fn pad(row: &mut ClusteredRow, width: usize) -> Result<(), AllocError>
     Ok(())
 }
 
-// The cell of a cluster of `width` columns stands at a column, which is padded to.
+// Sets the cell of a cluster of `width` columns at column `at`; pads a row that ends before the cell's end.
 #[inline(always)]
 pub(crate) fn set_cluster(
     row: &mut ClusteredRow,
@@ -47,7 +47,7 @@ pub(crate) fn set_cluster(
     Ok(())
 }
 
-// A cell stands at a column, which is padded to.
+// Sets a cell at column `at`; pads a row that ends before the cell's end.
 pub(crate) fn set_cell(row: &mut ClusteredRow, at: usize, cell: &Cell) -> Result<(), AllocError>
     ensures { OnOk result (row.new ≡ with_cell row.old at cell.now) }
 {

@@ -1,5 +1,5 @@
-//! Laws of the definitions: the cut of a line into clusters, and what some edits and questions of
-//! lines give, and of comparisons. Each is the contract of a function that does nothing but compare.
+//! Laws of the definitions: the cut of a line into clusters, the results of some edits and queries
+//! of lines, and comparisons. Each is the contract of a function that does nothing but compare.
 ghost use Rattle.std.specs.Prelude.{◌≡◌, ◌↔◌, IsTrue, ℕ, ◌+◌, ◌<◌, ◌≤◌, ◌++◌, suc, nat_le, List, [], ◌∷◌, Bool, true};
 ghost use Rattle.std.specs.Prelude.{false, codes, length, replicate};
 ghost use Rattle.std.specs.List.{flat_map};
@@ -39,8 +39,8 @@ pub fn attribute_changes_are_equal_by_value(one: &AttributeChange, other: &Attri
     one == other
 }
 
-/// The columns of a line are whole: each left half has its right half after it, and no right half
-/// stands elsewhere. So the columns of its visible cells are its columns.
+/// The columns of a line are whole: each left half has its right half after it, and there is no
+/// other right half. So the columns of its visible cells are its columns.
 pub fn lines_are_whole(line: &Line)
     ensures whole { IsWhole line.now.columns }
     ensures row { row_of_visible (visible_cells line.now.columns) ≡ line.now.columns }
@@ -49,7 +49,7 @@ pub fn lines_are_whole(line: &Line)
 }
 
 /// The columns of the visible cells of a whole row are the row; and the visible cells of a row in
-/// which columns were set are those before them, theirs, and those after them.
+/// which columns were set are the cells before these columns, their cells, and the cells after them.
 pub fn rows_and_their_cells()
     ensures row { (row : Row) → IsWhole row → row_of_visible (visible_cells row) ≡ row }
     ensures joined { (at : ℕ) (first : Row) (second : Row)
@@ -106,7 +106,7 @@ pub fn lines_with_a_cell()
     ensures after { set_cell (new 1) 2 (letter_cell 120) 7 ≡ clustered_line_of 7 (letters (codes "  x")) }
 {}
 
-/// A law, which needs no call: what is inserted, erased, removed, filled, cut off and joined.
+/// A law, which needs no call: the lines after cells are inserted, erased, removed, filled, cut off and joined.
 pub fn edited_lines()
     ensures inserted { insert_cell (line_of 1 (letters (codes "abc"))) 1 (letter_cell 120) 3 7
         ≡ line_of 7 (letters (codes "axb")) }

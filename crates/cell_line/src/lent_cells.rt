@@ -5,7 +5,7 @@ ghost use Rattle.cell_line.specs.LentCells.{LendsItems};
 
 use cell_base::Cell;
 
-// All cells, lent to be changed.
+// A mutable borrow of all cells.
 pub(crate) fn slice_of(cells: &mut Vec<Cell>) -> &mut [Cell]
     ensures* writes_back { sem 𝓛 (LendsItems cells.entry result) }
     ensures value { result.now ≡ cells.old.items }

@@ -23,13 +23,13 @@ use std::marker::Model;
 /// own, or is one of the two halves of a wide cell; columns count from 0. Where an edit leaves a
 /// half of a wide cell alone, that half becomes a blank with the wide cell's attributes.
 ///
-/// The columns are kept as cells, or clustered: as one text and runs of equal attributes, as `stored`
-/// tells. A line stays what it is, but for `compress_for_scrollback`, which makes it clustered, and
-/// `cells_mut`, which makes it one of cells. Nothing else tells the two apart.
+/// The columns are kept as cells, or clustered: as one text and runs of equal attributes; `stored`
+/// tells which. A line stays what it is, except that `compress_for_scrollback` makes it clustered, and
+/// `cells_mut` makes it one of cells. Nothing else tells the two apart.
 ///
-/// Calls that change a line are given the number of the change, and the line keeps the greatest.
-/// A call that is refused memory leaves number and bits as they were; nothing is said of the columns,
-/// nor of how they are kept.
+/// Calls that change a line take the number of the change, and the line keeps the greatest.
+/// A call that is refused memory leaves number and bits as they were; the columns, and how they are
+/// kept, are then unspecified.
 #[derive(Debug, Drop)]
 pub struct Line {
     pub(crate) alloc: Global,
@@ -55,7 +55,7 @@ impl Model for Line {
 }
 
 impl Line {
-    /// A line of cells: `width` such ones, read from the left; of a wide cell, `width` columns.
+    /// A line of cells: `width` copies of `cell`, read from the left; of a wide cell, `width` columns.
     pub fn with_width_and_cell(
         alloc: Global,
         width: usize,
@@ -69,8 +69,8 @@ impl Line {
         Ok(Line::from_cells(alloc, cells, seqno))
     }
 
-    /// A line of these cells, read from the left: the one stored after a wide one isn't looked at, and
-    /// a wide cell with none after it counts as a blank with its attributes.
+    /// A line of these cells, read from the left: the cell stored after a wide one is ignored, and a
+    /// wide cell with none after it counts as a blank with its attributes.
     pub fn from_cells(alloc: Global, cells: Vec<Cell>, seqno: SequenceNo) -> Line
         ensures { result ≡ from_cells cells.items seqno }
     {
@@ -159,10 +159,10 @@ impl Line {
         Ok(Line::from_cells(alloc, cells, seqno))
     }
 
-    /// Lends a cell for each column: the one that begins there, and after a wide cell the blank
-    /// with its attributes. What is left there is read from the left as the line's columns: the
-    /// cell after a wide one isn't looked at, and a wide cell with none after it counts as a
-    /// blank with its attributes. Number and bits stay, and the line is one of cells.
+    /// A mutable borrow of a cell for each column: the one that begins there, and after a wide
+    /// cell the blank with its attributes. The cells that it leaves are read from the left as
+    /// the line's columns: the cell after a wide one is ignored, and a wide cell with none after
+    /// it counts as a blank with its attributes. Number and bits stay, and the line is one of cells.
     pub fn cells_mut(&mut self) -> Result<&mut [Cell], AllocError>
         ensures* writes_back { sem 𝓛 (LendsCells self.entry result) }
         ensures lent { IfOk result (λ cells. cells.now ≡ lent_cells self.old.columns) }
@@ -175,7 +175,7 @@ impl Line {
         }
     }
 
-    /// Lends the cells, as `cells_mut` does, to callers that change attributes alone.
+    /// Borrows the cells, as `cells_mut` does, for callers that change attributes alone.
     pub fn cells_mut_for_attr_changes_only(&mut self) -> Result<&mut [Cell], AllocError>
         ensures* writes_back { sem 𝓛 (LendsCells self.entry result) }
         ensures lent { IfOk result (λ cells. cells.now ≡ lent_cells self.old.columns) }
@@ -188,7 +188,7 @@ impl Line {
         }
     }
 
-    // Lends the vector of cells, each as it is shown in its column.
+    // A mutable borrow of the vector of cells, each as it is shown in its column.
     fn settled_cells(&mut self) -> Result<&mut Vec<Cell>, AllocError>
         ensures* writes_back { sem 𝓛 (LendsStored self.entry result) }
         ensures cells { IfOk result

@@ -16,7 +16,7 @@ use clustered_row::ClusteredRow;
 use std::alloc::{AllocError, Global};
 use std::mem;
 
-// The cells become those that are shown in the columns, one for each: of a clustered line those of its row. A refusal
+// Sets the cells to the cells that the columns show, one for each: of a clustered line the cells of its row. A refusal
 // leaves what they show.
 pub(crate) fn settle(
     alloc: Global,
@@ -40,7 +40,7 @@ pub(crate) fn settle(
 }
 
 impl Line {
-    // What is kept of the columns.
+    // The stored form of the columns.
     #[inline(always)]
     pub(crate) fn stored_cells(&self) -> StoredCells<'_>
         ensures { stored_row result ≡ self.now.columns }
@@ -52,7 +52,7 @@ impl Line {
         }
     }
 
-    /// What is kept of the columns, and whether the line is clustered.
+    /// The stored form of the columns, and whether the line is clustered.
     pub fn stored(&self) -> StoredLine<'_>
         ensures { IsKept self.now.clustered self.now.columns result }
     {
@@ -75,7 +75,7 @@ impl Line {
         Ok(mem::replace(&mut self.cells, Vec::new(self.alloc)))
     }
 
-    // Puts cells in the place of the columns. A clustered line stays so.
+    // Replaces the columns by cells. A clustered line stays clustered.
     pub(crate) fn close(&mut self, cells: Vec<Cell>) -> Result<(), AllocError>
         ensures done { OnOk result (self.new ≡ record self.old { columns = row_of_cells cells.items }) }
         ensures refused { OnErr result (IsRefused self.old self.new) }

@@ -1,4 +1,4 @@
-//! What a line shows, and what is made of that.
+//! What a line shows, and values made of it.
 ghost use Rattle.std.specs.Prelude.{◌≡◌, ℕ, ◌≤◌, List, Bool, length, map, IfOk, string_bytes};
 ghost use Rattle.std.specs.Cow.{cow_str_bytes};
 ghost use Rattle.std.specs.Option.{option_map};
@@ -52,7 +52,7 @@ impl Line {
         RegionIter::new(self.stored_cells(), cols.start, cols.end)
     }
 
-    // Each left half has its right half after it, and no right half stands elsewhere.
+    // Each left half has its right half after it, and there is no other right half.
     pub(crate) fn is_whole(&self)
         ensures { IsWhole self.now.columns }
     {
@@ -69,8 +69,8 @@ impl Line {
     /// The changes that write the line where the pen has these attributes, on blanks of the default
     /// background: each run of neighbours of equal attributes has its attributes, unless the pen has
     /// them, and then its texts, joined where the clusters of the joined text (UAX 29) are the cells.
-    /// Blanks at the end, plain but for one background, aren't written: their attributes stand for
-    /// them, where other cells stand before them, and a clear to the end of the line, unless their
+    /// Blanks at the end, plain except for one background, aren't written: their attributes replace
+    /// them, where other cells precede them, and a clear to the end of the line, unless their
     /// background is the default one.
     pub fn changes(&self, start_attr: &CellAttributes) -> Result<Vec<Change>, AllocError>
         ensures { IfOk result (λ found. map value_of found.items ≡ changes self.now start_attr.now) }
@@ -114,8 +114,8 @@ impl Line {
     }
 
     /// The line in rows of at most `width` columns, each a line of cells at normal size; a cell alone may
-    /// pass it. The spaces after the last other text go. The line goes on after each row but the last.
-    /// A line with no text but spaces stays as it is. If memory is refused the line is dropped.
+    /// pass it. The spaces after the last other text are dropped. The line goes on after each row except the
+    /// last. A line whose texts are all spaces stays as it is. If memory is refused the line is dropped.
     pub fn wrap(mut self, width: usize, seqno: SequenceNo) -> Result<Vec<Line>, AllocError>
         ensures { IfOk result (λ lines. lines.items ≡ wrap self width seqno) }
     {

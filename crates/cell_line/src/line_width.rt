@@ -35,7 +35,7 @@ impl Line {
         Ok(())
     }
 
-    /// Makes the line so many blanks with these attributes, at normal size.
+    /// Makes the line `width` blanks with these attributes, at normal size.
     pub fn resize_and_clear(
         &mut self,
         width: usize,
@@ -50,7 +50,7 @@ impl Line {
         Ok(())
     }
 
-    // Makes the line so many blanks with these attributes; number and bits stay.
+    // Makes the line `width` blanks with these attributes; number and bits stay.
     #[tactic(auto, using(cell_edits::proofs::CutLemmas::row_of_blanks_with))]
     fn clear_to(&mut self, width: usize, attrs: &CellAttributes) -> Result<(), AllocError>
         ensures done { OnOk result (self.new ≡ record self.old { columns = replicate width (blank attrs.now) }) }
@@ -64,7 +64,7 @@ impl Line {
         Ok(())
     }
 
-    /// Cuts the line at a column, or at its end if that comes first, and answers what stood from
+    /// Cuts the line at a column, or at its end if that comes first, and returns the columns from
     /// there on, as a line of cells with the same bits.
     pub fn split_off(&mut self, idx: usize, seqno: SequenceNo) -> Result<Line, AllocError>
         ensures kept { OnOk result (self.new ≡ split_off_kept self.old idx) }

@@ -32,7 +32,7 @@ pub fn with_width_clustered(alloc: Global, width: usize, seqno: SequenceNo) -> L
     }
 }
 
-// A row becomes so many plain blanks. The memory of one that is as wide stays.
+// Makes a row `width` plain blanks. A row that is as wide keeps its memory.
 #[inline(always)]
 fn reset_row(alloc: Global, row: &mut ClusteredRow, width: usize)
     ensures { row.new ≡ plain_row width }
@@ -82,8 +82,8 @@ pub fn set_blanks(
 }
 
 /// Sets a cell for each cluster of a text, as UAX 29 cuts it, side by side from the start of a
-/// range on, up to the first that doesn't fit before its end. Answers the column after them, and
-/// the text that is left, whose clusters are those that weren't set. Number, bits and the count
+/// range on, up to the first that doesn't fit before its end. Returns the column after them, and
+/// the rest of the text, whose clusters are the ones that weren't set. Number, bits and the count
 /// of columns stay.
 pub fn set_text<'a, W: Widths>(
     line: &mut Line,

@@ -1,13 +1,13 @@
-//! What a line keeps.
+//! The stored form of a line.
 use cell_base::Cell;
 use clustered_row::StoredRow;
 
-/// What a line keeps of its columns: cells, or one text and runs of equal attributes.
+/// The stored form of a line's columns: cells, or one text and runs of equal attributes.
 #[derive(Clone, Copy)]
 pub enum StoredLine<'a> {
-    /// Read from the left: the cell stored after a wide one isn't looked at, and a wide one with
-    /// none after it is a blank with its attributes.
+    /// Read from the left: the cell stored after a wide one is ignored, and a wide cell with none
+    /// after it is a blank with its attributes.
     Cells(&'a [Cell]),
-    /// What the line's clustered row keeps. There are no cells beside it.
+    /// The stored form of the line's clustered row. There are no cells beside it.
     Clustered(StoredRow<'a>),
 }

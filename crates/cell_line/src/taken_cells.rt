@@ -50,7 +50,7 @@ impl Iterator for TakenCells {
     }
 }
 
-// The cell stored after a wide one goes, if there is one.
+// Drops the cell stored after a wide one, if there is one.
 fn drop_hidden(cells: &mut IntoIter<Cell, Global>)
     ensures items { into_iter_items cells.new ≡ drop 1 (into_iter_items cells.old) }
     ensures len { into_iter_len cells.new ≡ into_iter_len cells.old - 1 }

@@ -4,9 +4,9 @@ use crate::line::Line;
 impl Line {
     ghost use Rattle.clustered_row.specs.EqualColumns.{AreEqualAround};
 
-    /// Columns outside of which two lines show the same: those from the first of these on and before the second. No
-    /// cell is cut at either. Of clustered lines that are kept alike there are none; lines that are kept otherwise may
-    /// show the same in some of them, and where one is a line of cells they are all columns.
+    /// The range of columns outside of which two lines show the same: its first column, and the column after its last.
+    /// No cell is cut at either. For clustered lines that are stored alike it is empty; lines that are stored otherwise
+    /// may show the same in some of its columns, and where one is a line of cells it has all columns.
     pub fn unequal_columns(&self, other: &Line) -> (usize, usize)
         ensures { AreEqualAround result.0 result.1 self.now.columns other.now.columns }
     {

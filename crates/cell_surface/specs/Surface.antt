@@ -18,7 +18,7 @@ pub record Surface (W : Type 0) : Type 0 where
   pub log : Sized
   pub is_failed : Bool
 
--- what it shows
+-- the display that it shows
 abbrev pub shown_by : {W : Type 0} → Surface W → Display
 shown_by s = display_of s.grid
 
@@ -59,12 +59,12 @@ pub record Resizes {W : Type 0} (width height : ℕ) (before after : Surface W) 
   pub log : after.log ≡ step_of_kept before.log (Resized (most_due width height))
   pub stays : after.is_failed ≡ false
 
--- changes that are due are lent as they are, and where none are due those of a repaint are given
+-- due changes are borrowed; where there are none (`None`), the changes of a repaint are owned
 abbrev pub Answers : {Z : Type 0} → Option (List ChangeValue) → List ChangeValue → CowSlice Change Z → Type 0
 Answers (Some changes) painted answer = (map value_of (cow_slice_items answer) ≡ changes) × (IsOwnedSlice answer → ⊥)
 Answers None painted answer = (map value_of (cow_slice_items answer) ≡ painted) × IsOwnedSlice answer
 
--- some changes were added, and others are left, with which all are
+-- some changes were added: on the surface after them `left` has the same effect as `all` before
 pub record AddsOn {W : Type 0} (width_of : List ℕ → ℕ) (before now : Surface W) (all left : List ChangeValue) : Type 0
   where
     pub shown : replay width_of (shown_by now) left ≡ replay width_of (shown_by before) all

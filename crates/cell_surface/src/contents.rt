@@ -55,8 +55,8 @@ fn line_len(line: &Line) -> usize {
     len
 }
 
-// How many bytes the texts of lines have: room for them is asked for once, so that a large text never stands in two
-// positions.
+// How many bytes the texts of lines have: room for them is asked for once, so that a large text is never in memory
+// twice.
 fn text_len(lines: &[Line]) -> usize {
     let mut len = 0_usize;
     for line in lines {
@@ -97,7 +97,7 @@ impl<W: Widths + Drop> Surface<W> {
         lines_text(self.alloc, self.grid.lines())
     }
 
-    /// Copies of the cells of each row, one for each column: after a wide cell stands a blank with its
+    /// Copies of the cells of each row, one for each column: after a wide cell comes a blank with its
     /// attributes.
     pub fn screen_cells(&self) -> Result<Vec<Vec<Cell>>, AllocError>
         ensures { IfOk result

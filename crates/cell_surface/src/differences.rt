@@ -17,7 +17,7 @@ use std::alloc::AllocError;
 impl<W: Widths + Drop> Surface<W> {
     /// The changes that make a region of this surface, whose top left is at column `x` and row `y`,
     /// show what the other one shows from `other_x` and `other_y` on: the cells that this one doesn't
-    /// show yet, each run of neighbours after its place. Columns and rows that either side lacks are
+    /// show yet, each run of neighbours after its position. Columns and rows that either side lacks are
     /// left out, and a wide cell that the region's edge cuts counts as a blank with its attributes.
     pub fn diff_region(
         &self,
@@ -64,7 +64,7 @@ impl<W: Widths + Drop> Surface<W> {
         Ok(changes)
     }
 
-    /// The changes that make a row of this surface show a line; none where there is no such row.
+    /// The changes that make row `row_num` of this surface show a line; none where there is no such row.
     pub fn diff_against_numbered_line(
         &self,
         row_num: usize,
@@ -160,8 +160,8 @@ impl<W: Widths + Drop> Surface<W> {
         Ok(changes)
     }
 
-    /// Copies a region, whose top left is at column `src_x` and row `src_y`, so that its top left stands at
-    /// column `dest_x` and row `dest_y`: adds the difference there, and answers as `add_changes` of it.
+    /// Copies a region, whose top left is at column `src_x` and row `src_y`, so that its top left is at
+    /// column `dest_x` and row `dest_y`: adds the difference there, and returns what `add_changes` of it does.
     /// Columns and rows that the surface lacks at either position are left out; the cursor and the pen are
     /// where the difference leaves them. What is copied is what was shown before, also where both positions
     /// share cells.

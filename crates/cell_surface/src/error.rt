@@ -5,20 +5,20 @@ ghost use Rattle.cell_surface.specs.declared.error.SurfaceError.TheVariants.{Mem
 use std::alloc::AllocError;
 use thiserror::Error;
 
-/// Why a call of a surface was refused. Where several of these would be, the first of them is
-/// answered; but while `draw_from_screen` and `copy_region` make their difference, want of memory
-/// comes before the numbers.
+/// Why a call of a surface was refused. Where several of these apply, the call returns the first of
+/// them; but while `draw_from_screen` and `copy_region` make their difference, want of memory comes
+/// before the numbers.
 #[derive(Clone, Copy, Debug, PartialEq, Eq, Error)]
 pub enum SurfaceError {
     /// An earlier call that changes the surface was refused memory. Nothing was changed; every call that
-    /// changes the surface, and `get_changes`, answers this from then on.
+    /// changes the surface, and `get_changes`, returns this from then on.
     #[error("the surface has failed")]
     Failed,
     /// The number of changes would pass `usize::MAX`. Nothing was changed.
     #[error("the numbers are used up")]
     Number,
-    /// There was no memory. A surface that the call would have changed has failed, and of its cells
-    /// nothing is said; any other is as it was.
+    /// There was no memory. A surface that the call would have changed has failed, and its cells are
+    /// unspecified; any other surface is as it was.
     #[error("out of memory")]
     Memory,
 }

@@ -12,7 +12,7 @@ use cell_base::{SequenceNo, Widths};
 use screen_change::Change;
 use std::alloc::AllocError;
 
-/// The changes that are due from a number on, as `get_changes` lends them; `None` where that paints the screen anew.
+/// The changes that are due from a number on, as `get_changes` borrows them; `None` where that paints the screen anew.
 pub fn due_changes<W: Widths + Drop>(surface: &Surface<W>, seq: SequenceNo) -> Option<&[Change]>
     ensures { option_map (λ changes. map value_of changes.now) result
         ≡ due surface.now.log.most surface.now.log.log seq }

@@ -1,5 +1,5 @@
-//! Laws of surfaces: each is the contract of a function that does nothing. Here are those of what
-//! stands below too: of the changes that are due, of repaints, and of differences.
+//! Laws of surfaces: each is the contract of a function that does nothing. The laws of the layers
+//! below are here too: of the changes that are due, of repaints, and of differences.
 ghost use Rattle.std.specs.Prelude.{◌≡◌, ◌*◌, ◌≤◌, false, length, All};
 ghost use Rattle.cell_line.specs.LineContent.{IsClustered};
 ghost use Rattle.cell_surface.specs.Surface.{number_of, shown_by};

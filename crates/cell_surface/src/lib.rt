@@ -1,4 +1,4 @@
-//! The surface: a screen with numbered changes; and what stands below it: cells, lines and changes.
+//! The surface: a screen with numbered changes; and the layers below it: cells, lines and changes.
 #![tactic(auto)]
 
 mod contents;

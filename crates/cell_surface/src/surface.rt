@@ -26,8 +26,8 @@ use std::marker::Model;
 /// A screen of cells with a cursor, a pen and a title, whose changes are numbered. The last of them
 /// are kept in a log. Columns and rows count from 0.
 ///
-/// A call that changes a surface and is refused memory leaves one that has failed: every such call then
-/// answers `Failed`, and of the cells nothing is said.
+/// A call that changes a surface and is refused memory leaves one that has failed: every call that changes it
+/// then returns `Failed`, and its cells are unspecified.
 #[derive(Drop)]
 pub struct Surface<W: Widths> {
     pub(crate) alloc: Global,
@@ -144,8 +144,8 @@ impl<W: Widths + Drop> Surface<W> {
         self.log.number() != seq
     }
 
-    /// Whether a call that changes the surface was refused memory, so that such calls and `get_changes`
-    /// answer `Failed`.
+    /// Whether a call that changes the surface was refused memory, so that calls that change it and
+    /// `get_changes` return `Failed`.
     pub fn is_failed(&self) -> bool
         ensures { result ≡ self.now.is_failed }
     {
@@ -170,7 +170,7 @@ impl<W: Widths + Drop> Surface<W> {
         self.log.number()
     }
 
-    /// Adds a change, which raises the number by one and joins the log; answers the number before it.
+    /// Adds a change, which raises the number by one and joins the log; returns the number before it.
     pub fn add_change<C: Into<Change> + Drop>(
         &mut self,
         change: C,
@@ -197,13 +197,13 @@ impl<W: Widths + Drop> Surface<W> {
         Ok(number)
     }
 
-    /// An empty text, with the memory of one that was added and is gone from the log, where there is some: what is
-    /// written into it and added again takes none then.
-    pub fn spare_text(&mut self) -> String
+    /// An empty text, with the memory of a text that was added and then dropped from the log, where there is some: a
+    /// text written into it and added again takes none then.
+    pub fn pooled_text(&mut self) -> String
         ensures empty { string_bytes result ≡ [] }
         ensures same { self.new ≡ self.old }
     {
-        self.log.spare_text()
+        self.log.pooled_text()
     }
 
     // A change has its effect, and joins the log.
@@ -243,11 +243,11 @@ impl<W: Widths + Drop> Surface<W> {
         Ok(number.saturating_sub(1) + count)
     }
 
-    /// Adds changes in turn. Answers the number before them less one, but at least 0, plus how many they
-    /// are; so for no changes at all the number less one, or 0.
+    /// Adds changes in turn. Returns the number before them less one, but at least 0, plus how many changes
+    /// there are; so for no changes at all the number less one, or 0.
     ///
     /// Where the number would pass `usize::MAX` before the last of them, none is made. Where one of them
-    /// is refused memory the surface has failed, and those after it are dropped.
+    /// is refused memory the surface has failed, and the changes after it are dropped.
     pub fn add_changes(&mut self, changes: Vec<Change>) -> Result<SequenceNo, SurfaceError>
         ensures number { IfOk result (λ n. n ≡ number_of self.old - 1 + length changes.items) }
         ensures added { OnOk result
@@ -265,7 +265,7 @@ impl<W: Widths + Drop> Surface<W> {
         self.push_all(changes)
     }
 
-    /// Becomes so many columns wide and rows high, each from 1 to 2^32 - 1. The top left stays, and
+    /// Becomes `width` columns wide and `height` rows high, each from 1 to 2^32 - 1. The top left stays, and
     /// plain blanks come at the right and below; a wide cell that the edge cuts becomes a blank with its
     /// attributes. The cursor stays within the last column and row, so that no wrap is pending. Where
     /// the log isn't empty the number rises by one and the log is emptied.
@@ -293,10 +293,10 @@ impl<W: Widths + Drop> Surface<W> {
         Ok(())
     }
 
-    /// The current number, and the changes from a number on, lent from the log; or, at 0, before the
+    /// The current number, and the changes from a number on, borrowed from the log; or, at 0, before the
     /// first change of the log, above the current number, while that is 0, and where more than
     /// 3 + 6wh/5 changes (rounded down, of w columns and h rows) are due, the repaint: changes which
-    /// paint this screen on any screen of its size. At the current number no change is due. What is lent takes no
+    /// paint this screen on any screen of its size. At the current number no change is due. Borrowed changes take no
     /// memory.
     pub fn get_changes(
         &self,

@@ -6,7 +6,7 @@ use Rattle.cell_base.specs.CellContent.{CellContent, row_of_cells}
 use Rattle.cell_base.specs.Row.{Narrow, LeftHalf, RightHalf, Row, blank, closed_start}
 use Rattle.cell_edits.specs.CellList.{ends_split}
 use Rattle.cell_edits.specs.VisibleCells.{VisibleCell, visible_from, first_of, cell_at}
-use Rattle.cell_edits.proofs.CellLemmas.{by_test, row_wide, row_narrow, halved_wide, halved_narrow, starts_closed}
+use Rattle.cell_edits.proofs.CellLemmas.{by_test, row_wide, row_narrow, split_wide, split_narrow, starts_closed}
 use Rattle.cell_views.proofs.KeptLemmas.{AreInOrder, in_order}
 
 hit : (v : VisibleCell) (cells : List VisibleCell) (column : ℕ) → v.column ≡ column → find (λ w. w.column == column) (v ∷ cells) ≡ Some v
@@ -48,10 +48,10 @@ cell_found (c ∷ d ∷ cs) from (suc zero) column e h =
 cell_found (c ∷ d ∷ cs) from (suc (suc m)) column e h = by_test (nat_le 2 c.width)
     (λ t. ap (λ (r : Row). find (λ v. v.column == column) (visible_from from r)) (row_wide c d cs t)
     ∙ miss _ (visible_from (from + 1 + 1) (row_of_cells cs)) column (λ f. absurd (omega (arith, e, f)))
-    ∙ cell_found cs (from + 1 + 1) m column (omega (arith, e)) (sym (halved_wide c d (take m cs) t) ∙ h))
+    ∙ cell_found cs (from + 1 + 1) m column (omega (arith, e)) (sym (split_wide c d (take m cs) t) ∙ h))
     (λ t. ap (λ (r : Row). find (λ v. v.column == column) (visible_from from r)) (row_narrow c d cs t)
     ∙ miss _ (visible_from (from + 1) (row_of_cells (d ∷ cs))) column (λ f. absurd (omega (arith, e, f)))
-    ∙ cell_found (d ∷ cs) (from + 1) (suc m) column (omega (arith, e)) (sym (halved_narrow c d (take m cs) t) ∙ h))
+    ∙ cell_found (d ∷ cs) (from + 1) (suc m) column (omega (arith, e)) (sym (split_narrow c d (take m cs) t) ∙ h))
 
 -- the second column of a wide cell
 pub none_found : (cells : List CellContent) (from n column : ℕ) → column ≡ from + n → ends_split (take n cells) ≡ true → find (λ v. v.column == column) (visible_from from (row_of_cells cells)) ≡ None
@@ -67,10 +67,10 @@ none_found (c ∷ d ∷ cs) from (suc zero) column e h =
 none_found (c ∷ d ∷ cs) from (suc (suc m)) column e h = by_test (nat_le 2 c.width)
     (λ t. ap (λ (r : Row). find (λ v. v.column == column) (visible_from from r)) (row_wide c d cs t)
     ∙ miss _ (visible_from (from + 1 + 1) (row_of_cells cs)) column (λ f. absurd (omega (arith, e, f)))
-    ∙ none_found cs (from + 1 + 1) m column (omega (arith, e)) (sym (halved_wide c d (take m cs) t) ∙ h))
+    ∙ none_found cs (from + 1 + 1) m column (omega (arith, e)) (sym (split_wide c d (take m cs) t) ∙ h))
     (λ t. ap (λ (r : Row). find (λ v. v.column == column) (visible_from from r)) (row_narrow c d cs t)
     ∙ miss _ (visible_from (from + 1) (row_of_cells (d ∷ cs))) column (λ f. absurd (omega (arith, e, f)))
-    ∙ none_found (d ∷ cs) (from + 1) (suc m) column (omega (arith, e)) (sym (halved_narrow c d (take m cs) t) ∙ h))
+    ∙ none_found (d ∷ cs) (from + 1) (suc m) column (omega (arith, e)) (sym (split_narrow c d (take m cs) t) ∙ h))
 
 nothing_after : (cells : List CellContent) (n : ℕ) → length cells ≤ n → drop n cells ≡ []
 nothing_after [] zero h = refl

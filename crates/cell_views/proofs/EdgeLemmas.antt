@@ -13,7 +13,7 @@ use Rattle.cell_edits.proofs.CellLemmas.{by_test, closed_end-narrow}
 use Rattle.cell_edits.proofs.RowLaws.{visible-append}
 use Rattle.clustered_row.specs.VisibleColumns.{starts_split, is_split, column_attributes}
 use Rattle.clustered_row.proofs.BetweenLemmas.{part_is}
-use Rattle.clustered_row.proofs.PartLemmas.{end_closed, end_halved, start_closed, start_halved}
+use Rattle.clustered_row.proofs.PartLemmas.{end_closed, end_split, start_closed, start_split}
 use Rattle.cell_views.specs.Region.{region, half_at, start_half, inner_start, end_half, inner_end}
 
 -- ---- where no cell is cut
@@ -27,18 +27,18 @@ whole_starts (RightHalf a ∷ row) w = absurd w
 -- after the second column of a wide cell none is cut, nor before it
 after_half : (n : ℕ) (row : Row) → IsWhole row → is_split n row ≡ true → is_split (n + 1) row ≡ false
 after_half n row w h =
-    whole_starts (drop (n + 1) row) (subst IsWhole (start_halved n row (blank plain) h) (whole-after n row w))
+    whole_starts (drop (n + 1) row) (subst IsWhole (start_split n row (blank plain) h) (whole-after n row w))
 
 before_half : (n : ℕ) (row : Row) → IsWhole row → is_split (n + 1) row ≡ true → is_split n row ≡ false
 before_half n row w h = by_test (is_split n row)
     (λ t. absurd (false≢true (sym (after_half n row w t) ∙ h)))
     (λ t. t)
 
-pub halved_within : (n : ℕ) (row : Row) → is_split n row ≡ true → n < length row
-halved_within zero [] h = absurd (false≢true h)
-halved_within (suc n) [] h = absurd (false≢true h)
-halved_within zero (c ∷ row) h = omega arith
-halved_within (suc n) (c ∷ row) h = let more = halved_within n row h in omega arith
+pub split_within : (n : ℕ) (row : Row) → is_split n row ≡ true → n < length row
+split_within zero [] h = absurd (false≢true h)
+split_within (suc n) [] h = absurd (false≢true h)
+split_within zero (c ∷ row) h = omega arith
+split_within (suc n) (c ∷ row) h = let more = split_within n row h in omega arith
 
 -- the definitions' parts by what an edge does
 module _ (at : ℕ) (row : Row) (b : Bool) (h : is_split at row ≡ b) where
@@ -116,7 +116,7 @@ start_step row start end o =
     let a = column_attributes (get_or row start (blank plain)) in
     let m = end - (start + 1) in
     let count : end - start ≡ suc m = omega arith in
-    ap closed (start_halved start row (blank plain) h)
+    ap closed (start_split start row (blank plain) h)
     ∙ ap (λ n. visible_from start (closed_end (take n (blank a ∷ drop (start + 1) row)))) count
     ∙ ap (visible_from start) (closed_end-narrow space a (take m (drop (start + 1) row)))
     ∙ sym (λ i. start_half_is start row true h i ++ closed_part (start_is start row true h i) end row))
@@ -143,7 +143,7 @@ end_step row from end w clean o l =
     let long : length (take n tail) ≡ n = length-take-le n tail (omega arith) in
     let column : from + length (take n tail) ≡ end - 1 = omega arith in
     ap (λ k. visible_from from (closed_end (take k tail))) count
-    ∙ ap (visible_from from) (end_halved n tail (blank plain) whole cut)
+    ∙ ap (visible_from from) (end_split n tail (blank plain) whole cut)
     ∙ visible-append from (take n tail) (blank (column_attributes (get_or tail (n + 1) (blank plain))) ∷ [])
     ∙ (λ i. visible_from from (take n tail) ++ visible_at (column i) space 1 (column_attributes (at i)) ∷ [])
     ∙ ap (λ (r : Row). visible_from from r ++ half_at (end - 1) end row)

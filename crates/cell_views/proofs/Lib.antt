@@ -4,7 +4,7 @@ pub mod EdgeLemmas
 pub mod GroupLemmas
 pub mod KeptLemmas
 pub mod LeftLemmas
-pub mod PlaceLemmas
+pub mod ByteColumnLemmas
 pub mod ReadLemmas
 pub mod RegionLemmas
 pub mod VisibleLemmas

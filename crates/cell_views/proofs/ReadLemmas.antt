@@ -6,7 +6,7 @@ use Rattle.cell_edits.specs.CellList.{ends_split, cell_columns}
 use Rattle.cell_views.specs.CellRefView.{one_or_two}
 use Rattle.cell_edits.specs.VisibleCells.{VisibleCell, visible_at, visible_from, visible_cells, row_of_visible}
 use Rattle.cell_views.specs.ReadCells.{read_from}
-use Rattle.cell_edits.proofs.CellLemmas.{by_test, wide_is, narrow_is, row_wide, row_narrow, halved_wide, halved_narrow}
+use Rattle.cell_edits.proofs.CellLemmas.{by_test, wide_is, narrow_is, row_wide, row_narrow, split_wide, split_narrow}
 
 -- a stored cell as it is seen
 abbrev pub seen : VisibleCell → VisibleCell
@@ -19,7 +19,7 @@ pub row_of_seen : (cells : List VisibleCell) → row_of_visible (map seen cells)
 row_of_seen [] = refl
 row_of_seen (v ∷ cells) = λ i. seen_columns v i ++ row_of_seen cells i
 
--- what is read is what is visible, where the last cell that is read isn't halved
+-- what is read is what is visible, where the last cell that is read isn't split
 pub read_is_visible : (i : ℕ) (cells : List CellContent) → ends_split cells ≡ false → map seen (read_from i cells) ≡ visible_from i (row_of_cells cells)
 read_is_visible i [] h = refl
 read_is_visible i (c ∷ []) h = rw h refl
@@ -27,12 +27,12 @@ read_is_visible i (c ∷ n ∷ cs) h = by_test (nat_le 2 c.width)
     (λ e.
     let on : i + 1 + 1 ≡ i + 2 = omega arith in
     ap (λ t. map seen (if t then record { column = i; cell = c } ∷ read_from (i + 2) cs else record { column = i; cell = c } ∷ read_from (i + 1) (n ∷ cs))) e
-    ∙ (λ j. visible_at i c.text (if e j then 2 else 1) c.attributes ∷ read_is_visible (i + 2) cs (sym (halved_wide c n cs e) ∙ h) j)
+    ∙ (λ j. visible_at i c.text (if e j then 2 else 1) c.attributes ∷ read_is_visible (i + 2) cs (sym (split_wide c n cs e) ∙ h) j)
     ∙ ap (λ m. visible_at i c.text 2 c.attributes ∷ visible_from m (row_of_cells cs)) (sym on)
     ∙ sym (ap (visible_from i) (row_wide c n cs e)))
     (λ e.
     ap (λ t. map seen (if t then record { column = i; cell = c } ∷ read_from (i + 2) cs else record { column = i; cell = c } ∷ read_from (i + 1) (n ∷ cs))) e
-    ∙ (λ j. visible_at i c.text (if e j then 2 else 1) c.attributes ∷ read_is_visible (i + 1) (n ∷ cs) (sym (halved_narrow c n cs e) ∙ h) j)
+    ∙ (λ j. visible_at i c.text (if e j then 2 else 1) c.attributes ∷ read_is_visible (i + 1) (n ∷ cs) (sym (split_narrow c n cs e) ∙ h) j)
     ∙ sym (ap (visible_from i) (row_narrow c n cs e)))
 
 -- a test of columns picks the same cells on both sides

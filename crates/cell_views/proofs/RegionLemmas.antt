@@ -38,10 +38,10 @@ region_none cells start end h =
     let none : end - start ≡ 0 = omega arith in
     ap (λ n. visible_from start (row_of_cells (take n (drop start cells)))) none ∙ sym (ap (λ n. visible_from start (cut n (cut_prefix start (row_of_cells cells)))) none)
 
-pub region_halved : (cells : List CellContent) (start end : ℕ) (d : CellContent) → 0 < start → start < end → end ≤ length cells → ends_split (take start cells) ≡ true
+pub region_split : (cells : List CellContent) (start end : ℕ) (d : CellContent) → 0 < start → start < end → end ≤ length cells → ends_split (take start cells) ≡ true
     → visible_at start space 1 (get_or cells (start - 1) d).attributes ∷ visible_from (start + 1) (row_of_cells (take (end - (start + 1)) (drop (start + 1) cells))) ≡ region start end (row_of_cells cells)
-region_halved cells zero end d some o l h = absurd (omega arith)
-region_halved cells (suc p) end d some o l h =
+region_split cells zero end d some o l h = absurd (omega arith)
+region_split cells (suc p) end d some o l h =
     let a = (get_or cells p d).attributes in
     let after : List CellContent = drop (suc (suc p)) cells in
     let m = end - suc (suc p) in

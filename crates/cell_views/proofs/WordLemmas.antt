@@ -34,11 +34,11 @@ column_below at (LeftHalf t a ∷ row) v cells e = let is : at ≡ v.column = ap
 column_below at (RightHalf a ∷ row) v cells e = let below = column_below (at + 1) row v cells e in omega arith
 
 module _ (test : List ℕ → Bool) where
-  front_more : (v : VisibleCell) (cells : List VisibleCell) → test v.cell.text ≡ true → prefix_words test (v ∷ cells) ≡ v ∷ prefix_words test cells
-  front_more v cells e = take_while-cons (λ v. test v.cell.text) v cells ∙ ap (λ b. cond b (v ∷ prefix_words test cells) []) e
+  prefix_more : (v : VisibleCell) (cells : List VisibleCell) → test v.cell.text ≡ true → prefix_words test (v ∷ cells) ≡ v ∷ prefix_words test cells
+  prefix_more v cells e = take_while-cons (λ v. test v.cell.text) v cells ∙ ap (λ b. cond b (v ∷ prefix_words test cells) []) e
 
-  front_none : (v : VisibleCell) (cells : List VisibleCell) → test v.cell.text ≡ false → prefix_words test (v ∷ cells) ≡ []
-  front_none v cells e = take_while-cons (λ v. test v.cell.text) v cells ∙ ap (λ b. cond b (v ∷ prefix_words test cells) []) e
+  prefix_none : (v : VisibleCell) (cells : List VisibleCell) → test v.cell.text ≡ false → prefix_words test (v ∷ cells) ≡ []
+  prefix_none v cells e = take_while-cons (λ v. test v.cell.text) v cells ∙ ap (λ b. cond b (v ∷ prefix_words test cells) []) e
 
   -- the end of the words, from what it is so far
   abbrev pub end_from : ℕ → ℕ → List VisibleCell → ℕ
@@ -49,7 +49,7 @@ module _ (test : List ℕ → Bool) where
   end_stops at now whole left v cells column l c h f e =
       let after : nat_le at v.column ≡ true = ap (nat_le at) (sym c) ∙ le-leb at column h in
       sym (ap (end_from at now) l ∙ ap (λ xs. fold (λ _ v. v.column + 1) now (prefix_words test xs)) (filter_in (λ v. nat_le at v.column) v cells after)
-      ∙ ap (λ xs. fold (λ _ v. v.column + 1) now xs) (front_none v (filter (λ v. nat_le at v.column) cells) f))
+      ∙ ap (λ xs. fold (λ _ v. v.column + 1) now xs) (prefix_none v (filter (λ v. nat_le at v.column) cells) f))
       ∙ e
 
   pub end_goes : (at now whole : ℕ) (left : List VisibleCell) (v : VisibleCell) (cells : List VisibleCell) (column : ℕ)
@@ -58,7 +58,7 @@ module _ (test : List ℕ → Bool) where
       let after : nat_le at v.column ≡ true = ap (nat_le at) (sym c) ∙ le-leb at column h in
       ap (λ n. end_from at (n + 1) cells) c
       ∙ sym (ap (end_from at now) l ∙ ap (λ xs. fold (λ _ v. v.column + 1) now (prefix_words test xs)) (filter_in (λ v. nat_le at v.column) v cells after)
-      ∙ ap (λ xs. fold (λ _ v. v.column + 1) now xs) (front_more v (filter (λ v. nat_le at v.column) cells) f))
+      ∙ ap (λ xs. fold (λ _ v. v.column + 1) now xs) (prefix_more v (filter (λ v. nat_le at v.column) cells) f))
       ∙ e
 
   -- where the words begin that are unbroken up to the last cell, from where they begin so far
@@ -94,23 +94,23 @@ module _ (test : List ℕ → Bool) where
       ∙ sym (begun_word None v cells e ∙ begun_broken (Some v.column) cells (all_rest v cells false e h)))
       (λ e. begun_other start v cells e ∙ sym (begun_other None v cells e))
 
-  front_all : (cells : List VisibleCell) (v : VisibleCell) → all_words cells ≡ true → test v.cell.text ≡ true → prefix_words test (cells ++ v ∷ []) ≡ cells ++ v ∷ []
-  front_all [] v h e = front_more v [] e
-  front_all (u ∷ cells) v h e = by_test (test u.cell.text)
-      (λ f. front_more u (cells ++ v ∷ []) f ∙ ap (λ (xs : List VisibleCell). u ∷ xs) (front_all cells v (all_rest u cells true f h) e))
+  prefix_all : (cells : List VisibleCell) (v : VisibleCell) → all_words cells ≡ true → test v.cell.text ≡ true → prefix_words test (cells ++ v ∷ []) ≡ cells ++ v ∷ []
+  prefix_all [] v h e = prefix_more v [] e
+  prefix_all (u ∷ cells) v h e = by_test (test u.cell.text)
+      (λ f. prefix_more u (cells ++ v ∷ []) f ∙ ap (λ (xs : List VisibleCell). u ∷ xs) (prefix_all cells v (all_rest u cells true f h) e))
       (λ f. absurd (false≢true (sym (ap (λ t. t && all_words cells) f) ∙ h)))
 
-  front_broken : (cells : List VisibleCell) (v : VisibleCell) → all_words cells ≡ false → prefix_words test (cells ++ v ∷ []) ≡ prefix_words test cells
-  front_broken [] v h = absurd (false≢true (sym h))
-  front_broken (u ∷ cells) v h = by_test (test u.cell.text)
-      (λ f. front_more u (cells ++ v ∷ []) f ∙ ap (λ (xs : List VisibleCell). u ∷ xs) (front_broken cells v (all_rest u cells false f h)) ∙ sym (front_more u cells f))
-      (λ f. front_none u (cells ++ v ∷ []) f ∙ sym (front_none u cells f))
+  prefix_broken : (cells : List VisibleCell) (v : VisibleCell) → all_words cells ≡ false → prefix_words test (cells ++ v ∷ []) ≡ prefix_words test cells
+  prefix_broken [] v h = absurd (false≢true (sym h))
+  prefix_broken (u ∷ cells) v h = by_test (test u.cell.text)
+      (λ f. prefix_more u (cells ++ v ∷ []) f ∙ ap (λ (xs : List VisibleCell). u ∷ xs) (prefix_broken cells v (all_rest u cells false f h)) ∙ sym (prefix_more u cells f))
+      (λ f. prefix_none u (cells ++ v ∷ []) f ∙ sym (prefix_none u cells f))
 
-  front_push : (cells : List VisibleCell) (v : VisibleCell) → test v.cell.text ≡ false → prefix_words test (cells ++ v ∷ []) ≡ prefix_words test cells
-  front_push [] v e = front_none v [] e
-  front_push (u ∷ cells) v e = by_test (test u.cell.text)
-      (λ f. front_more u (cells ++ v ∷ []) f ∙ ap (λ (xs : List VisibleCell). u ∷ xs) (front_push cells v e) ∙ sym (front_more u cells f))
-      (λ f. front_none u (cells ++ v ∷ []) f ∙ sym (front_none u cells f))
+  prefix_push : (cells : List VisibleCell) (v : VisibleCell) → test v.cell.text ≡ false → prefix_words test (cells ++ v ∷ []) ≡ prefix_words test cells
+  prefix_push [] v e = prefix_none v [] e
+  prefix_push (u ∷ cells) v e = by_test (test u.cell.text)
+      (λ f. prefix_more u (cells ++ v ∷ []) f ∙ ap (λ (xs : List VisibleCell). u ∷ xs) (prefix_push cells v e) ∙ sym (prefix_more u cells f))
+      (λ f. prefix_none u (cells ++ v ∷ []) f ∙ sym (prefix_none u cells f))
 
   all_push : (cells : List VisibleCell) (v : VisibleCell) → test v.cell.text ≡ true → all_words (cells ++ v ∷ []) ≡ all_words cells
   all_push [] v e = ap (λ t. t && true) e
@@ -143,11 +143,11 @@ module _ (test : List ℕ → Bool) where
       by_test (test v.cell.text)
       (λ e. by_test (all_words cells)
       (λ h. ap (λ o. unwrap_or o at) (begun_word None v cells e ∙ begun_all v.column cells h)
-      ∙ sym (last ∙ ap (λ xs. fold (λ _ v. v.column) at xs) (front_all (reverse cells) v (all_reverse cells ∙ h) e) ∙ last_column at (reverse cells) v))
+      ∙ sym (last ∙ ap (λ xs. fold (λ _ v. v.column) at xs) (prefix_all (reverse cells) v (all_reverse cells ∙ h) e) ∙ last_column at (reverse cells) v))
       (λ h. ap (λ o. unwrap_or o at) (begun_word None v cells e ∙ begun_broken (Some v.column) cells h) ∙ begun_back at cells
-      ∙ sym (last ∙ ap (λ xs. fold (λ _ v. v.column) at xs) (front_broken (reverse cells) v (all_reverse cells ∙ h)))))
+      ∙ sym (last ∙ ap (λ xs. fold (λ _ v. v.column) at xs) (prefix_broken (reverse cells) v (all_reverse cells ∙ h)))))
       (λ e. ap (λ o. unwrap_or o at) (begun_other None v cells e) ∙ begun_back at cells
-      ∙ sym (last ∙ ap (λ xs. fold (λ _ v. v.column) at xs) (front_push (reverse cells) v e)))
+      ∙ sym (last ∙ ap (λ xs. fold (λ _ v. v.column) at xs) (prefix_push (reverse cells) v e)))
 
   -- the same, step by step
   abbrev pub begun_from : ℕ → Option ℕ → List VisibleCell → Option ℕ

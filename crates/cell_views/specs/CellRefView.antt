@@ -16,7 +16,7 @@ use Rattle.cell_views.specs.declared.visible_cells.VisibleCellIter.{VisibleCellI
 abbrev pub one_or_two : ℕ → ℕ
 one_or_two width = if nat_le 2 width then 2 else 1
 
--- the visible cell that is lent
+-- the visible cell that is borrowed
 abbrev pub shown_by : CellRef → VisibleCell
 shown_by (of_cell column cell) = visible_at column cell.now.text (one_or_two cell.now.width) cell.now.attributes
 shown_by (of_cluster column text width attributes) = visible_at column text.now (one_or_two width) attributes.now
@@ -26,15 +26,15 @@ abbrev pub copied_by : CellRef → CellContent
 copied_by (of_cell column cell) = cell.now
 copied_by (of_cluster column text width attributes) = cell_of text.now (one_or_two width) attributes.now
 
--- the cell that a copy of what is shown is
+-- the copy of a shown cell
 abbrev pub copy_of : CellContent → CellContent
 copy_of cell = cell_of cell.text cell.width cell.attributes
 
--- the cells that are left of those that are read from the left
+-- the remaining cells of cells that are read from the left
 abbrev pub left_of_cells : CellsLeft → List VisibleCell
 left_of_cells s = visible_from s.cell_index (row_of_cells s.cells.now)
 
--- those of a clustered row, and the half after them
+-- the remaining cells of a clustered row, and the half after them
 abbrev pub left_of_clustered : ClusteredLeft → List VisibleCell
 left_of_clustered s = clustered.cells_left s.cells ++ half_left s.half
 
@@ -43,6 +43,6 @@ abbrev pub left_of : Left → List VisibleCell
 left_of (Cells cells) = left_of_cells cells
 left_of (Clustered cells) = left_of_clustered cells
 
--- the cells that are left
+-- the remaining cells
 abbrev pub cells_left : VisibleCellIter → List VisibleCell
 cells_left s = left_of s.left

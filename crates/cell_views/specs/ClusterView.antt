@@ -2,7 +2,7 @@
 use Rattle.std.specs.Prelude.{◌≡◌, ◌+◌, ◌<◌, ◌≤◌, Bool, true, List, [], ◌∷◌, ◌++◌, length, map, replicate}
 use Rattle.std.specs.String.{string_bytes}
 use Rattle.cell_edits.specs.VisibleCells.{VisibleCell}
-use Rattle.cell_views.specs.Places.{columns_in, widths_in}
+use Rattle.cell_views.specs.ByteColumns.{columns_in, widths_in}
 use Rattle.cell_views.specs.Clusters.{ClusterContent, cluster_of, begins_cluster, ends_in_space, holds_text}
 use Rattle.cell_views.specs.declared.clusters.CellCluster.TheInside.{Inside}
 use Rattle.cell_views.specs.declared.clusters.Clusters.{Clusters}
@@ -14,14 +14,14 @@ content_of a =
       text = string_bytes a.text;
       width = a.width;
       first_column = a.first_cell_idx;
-      columns = columns_in a.places;
-      widths = widths_in a.places;
+      columns = columns_in a.byte_columns;
+      widths = widths_in a.byte_columns;
     }
 
 -- each byte of the text has a column and a width
 pub record IsPlaced (a : Inside) : Type 0 where
-  pub columns : length (string_bytes a.text) ≤ length (columns_in a.places)
-  pub widths : length (string_bytes a.text) ≤ length (widths_in a.places)
+  pub columns : length (string_bytes a.text) ≤ length (columns_in a.byte_columns)
+  pub widths : length (string_bytes a.text) ≤ length (widths_in a.byte_columns)
 
 -- a cluster with a cell after its own
 abbrev pub grown : ClusterContent → VisibleCell → ClusterContent
@@ -44,7 +44,7 @@ abbrev pub begins_after : List (List VisibleCell) → VisibleCell → Bool
 begins_after [] v = true
 begins_after (cells ∷ groups) v = begins_cluster (last_of (cells ∷ groups)) v
 
--- the clusters that were made are those of these cells, and so is what is known of the last one
+-- the clusters made so far are the clusters of these cells, and the flags are those of the last group
 pub record IsMadeOf (groups : List (List VisibleCell)) (s : Clusters) : Type 0 where
   pub made : s.made.items ≡ map cluster_of groups
   pub ends_in_space : s.ends_in_space ≡ ends_in_space (last_of groups)

@@ -27,7 +27,7 @@ abbrev pub holds_text : List VisibleCell → Bool
 holds_text cells = list_any (λ v. not (is_space v)) cells
 
 -- whether a cell begins a new cluster after the cells of the last one: its attributes less `wrapped` differ from the
--- cluster's, it is no space and follows a space, or it is a space and follows a space where another text stands
+-- cluster's, it is no space and follows a space, or it is a space and follows a space in a cluster with other texts
 abbrev pub begins_cluster : List VisibleCell → VisibleCell → Bool
 begins_cluster cells v =
     not (same_attributes (cluster_attributes cells) (unwrapped v.cell.attributes)) || not (is_space v)
@@ -49,7 +49,7 @@ pub record ClusterContent : Type 0 where
   pub columns : List ℕ
   pub widths : List ℕ
 
--- what a cell says, once for each byte of its text
+-- a value of each cell, once for each byte of its text
 abbrev pub for_each_byte : (VisibleCell → ℕ) → List VisibleCell → List ℕ
 for_each_byte value cells = flat_map (λ v. replicate (length v.cell.text) (value v)) cells
 

@@ -1,4 +1,4 @@
--- Lists cut into groups by a rule, which says of an element whether it begins a new group after those of the last one.
+-- Lists cut into groups by a rule: whether an element begins a new group after the elements of the last one.
 use Rattle.std.specs.Prelude.{◌≡◌, Bool, true, false, ⊤, List, [], ◌∷◌, ◌++◌, flat_map, fold, if◌then◌else◌}
 
 -- the element joins the last group, or begins a new one
@@ -18,7 +18,7 @@ abbrev pub GoOn : {A : Type 0} → (List A → A → Bool) → List A → List A
 GoOn begins before [] = ⊤
 GoOn begins before (x ∷ xs) = (begins before x ≡ false) × GoOn begins (before ++ x ∷ []) xs
 
--- there is a first element, and the others go on
+-- there is a first element, and the remaining ones go on
 abbrev pub AreTogether : {A : Type 0} → (List A → A → Bool) → List A → Type 0
 AreTogether begins [] = ⊥
 AreTogether begins (x ∷ xs) = GoOn begins (x ∷ []) xs

@@ -4,7 +4,7 @@ pub mod Clusters
 pub mod Groups
 pub mod Halves
 pub mod OpenZones
-pub mod Places
+pub mod ByteColumns
 pub mod ReadCells
 pub mod Region
 pub mod StoredCells

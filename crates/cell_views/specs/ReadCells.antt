@@ -12,6 +12,6 @@ read_from at (cell ∷ next ∷ cells) =
     if nat_le 2 cell.width then record { column = at; cell = cell } ∷ read_from (at + 2) cells
     else record { column = at; cell = cell } ∷ read_from (at + 1) (next ∷ cells)
 
--- the cells that are left
+-- the remaining cells
 abbrev pub read_left : ReadCells → List VisibleCell
 read_left s = read_from s.cell_index s.cells.now

@@ -32,8 +32,8 @@ end_half end row = if is_split end row then half_at (end - 1) end row else []
 abbrev pub inner_end : ℕ → Row → ℕ
 inner_end end row = if is_split end row then end - 1 else end
 
--- ---- cells that are left
+-- ---- the remaining cells
 
--- the cells that are left
+-- the remaining cells
 abbrev pub region_left : RegionIter → List VisibleCell
 region_left s = half_left s.half ++ cells_left s.cells

@@ -1,4 +1,4 @@
-//! Visible cells, lent from a line.
+//! Visible cells, borrowed from a line.
 ghost use Rattle.std.specs.Prelude.{◌≡◌, ◌↔◌, false, IsTrue, IfOk};
 ghost use Rattle.cell_base.specs.CellContent.{shows_as_space};
 ghost use Rattle.clustered_row.specs.VisibleCells as clustered;
@@ -10,9 +10,9 @@ use cell_edits::row::column_count;
 use clustered_row::ClusteredCell;
 use std::alloc::{AllocError, Global};
 
-/// A visible cell of a line, with its first column, counted from 0. It is lent as the cell itself,
-/// or as a text of one cluster with the columns that it takes (below 2 they count as 1, above it
-/// as 2) and its attributes.
+/// A visible cell of a line, with its first column, counted from 0. It borrows the cell itself, or a
+/// text of one cluster with the columns that it takes (below 2 they count as 1, above it as 2) and
+/// its attributes.
 #[derive(Debug, Clone, Copy)]
 pub enum CellRef<'a> {
     CellRef {
@@ -68,7 +68,7 @@ impl<'a> CellRef<'a> {
         }
     }
 
-    /// A copy of the cell: of one whose text shows as a space a space of width 1, of any other what
+    /// A copy of the cell: a space of width 1 where its text shows as a space, and else the cell that
     /// is shown.
     pub fn as_cell(&self, alloc: Global) -> Result<Cell, AllocError>
         ensures copy { IfOk result (λ cell. cell ≡ copied_by self.now) }

@@ -10,8 +10,8 @@ ghost use Rattle.cell_views.specs.Clusters.{ClusterContent, unwrapped, cluster_o
 ghost use Rattle.cell_views.specs.ClusterView.{grown, begins_after, IsMadeOf};
 ghost use Rattle.cell_views.specs.declared.cell_ref.CellRef.{CellRef};
 
+use crate::byte_columns::ByteColumns;
 use crate::cell_ref::CellRef;
-use crate::places::Places;
 use crate::query::is_space;
 use cell_base::CellAttributes;
 use std::alloc::{AllocError, Global};
@@ -40,7 +40,7 @@ pub struct CellCluster {
     pub width: usize,
     /// The first column of its first cell, counted from 0.
     pub first_cell_idx: usize,
-    places: Places,
+    byte_columns: ByteColumns,
 }
 
 impl Model for CellCluster {
@@ -80,7 +80,7 @@ impl CellCluster {
         requires { byte_idx < length self.now.text }
         ensures { result ≡ slice_index self.now.columns byte_idx }
     {
-        self.places.column(byte_idx)
+        self.byte_columns.column(byte_idx)
     }
 
     /// The columns, 1 or 2, of the cell that a byte of the text belongs to.
@@ -88,7 +88,7 @@ impl CellCluster {
         requires { byte_idx < length self.now.text }
         ensures { result ≡ slice_index self.now.widths byte_idx }
     {
-        self.places.width(byte_idx)
+        self.byte_columns.width(byte_idx)
     }
 
     /// A copy.
@@ -100,7 +100,7 @@ impl CellCluster {
             text: self.text.clone()?,
             width: self.width,
             first_cell_idx: self.first_cell_idx,
-            places: self.places.try_clone()?,
+            byte_columns: self.byte_columns.try_clone()?,
         })
     }
 
@@ -126,26 +126,26 @@ impl CellCluster {
             text: String::with_capacity(alloc, hint)?,
             width: 0,
             first_cell_idx: cell.cell_index(),
-            places: Places::new(alloc, cell.cell_index()),
+            byte_columns: ByteColumns::new(alloc, cell.cell_index()),
         };
         cluster.grow(cell)?;
         Ok(cluster)
     }
 
-    // The cell goes after those of the cluster.
+    // Appends the cell to the cluster.
     fn grow(&mut self, cell: &CellRef<'_>) -> Result<(), AllocError>
         ensures { OnOk result (self.new ≡ grown self.old (shown_by cell.now)) }
     {
         let width = cell.width();
         let column = cell.cell_index();
         self.width = self.width.checked_add(width).ok_or(AllocError)?;
-        self.places.push(cell.str(), column, width as u8)?;
+        self.byte_columns.push(cell.str(), column, width as u8)?;
         self.text.push_str(cell.str())?;
         Ok(())
     }
 }
 
-// The cell goes after those of the last cluster.
+// Appends the cell to the last cluster.
 fn grow_last(clusters: &mut Vec<CellCluster>, cell: &CellRef<'_>) -> Result<(), AllocError>
     requires { 0 < vec_len clusters.old }
     ensures { (d : ClusterContent)

@@ -1,12 +1,12 @@
-//! What a row shows, whether it is kept as cells or as one text and runs: its visible cells, those
-//! between two columns, clusters of them, words, zones and questions.
+//! What a row shows, whether it is kept as cells or as one text and runs: its visible cells, the cells
+//! between two columns, clusters of them, words, zones and queries.
 #![tactic(auto)]
 
+mod byte_columns;
 mod cell_ref;
 mod clusters;
 mod fast;
 mod half;
-mod places;
 pub mod query;
 mod read_cells;
 mod region;

@@ -1,4 +1,4 @@
-//! What is asked of the cells of a row.
+//! Queries on the cells of a row.
 ghost use Rattle.std.specs.Prelude.{◌≡◌, ◌≤◌, ◌↔◌, ◌++◌, length, drop, not, IsTrue, OnOk, filter, string_bytes};
 ghost use Rattle.std.specs.List.{list_any, list_all};
 ghost use Rattle.std.specs.Str.{bytes_eq};
@@ -28,7 +28,7 @@ pub fn is_space(text: &str) -> bool
     text == " "
 }
 
-// The first cell of those from a column on.
+// The first visible cell from a column on.
 fn first_from(cells: &[Cell], column: usize) -> Option<CellRef<'_>>
     requires { column ≤ length cells.now }
     ensures { option_map shown_by result ≡ first_of (visible_from column (row_of_cells (drop column cells.now))) }
@@ -36,8 +36,8 @@ fn first_from(cells: &[Cell], column: usize) -> Option<CellRef<'_>>
     VisibleCellIter::from_column(&cells[column..], column).next()
 }
 
-// The cell that begins at the column, of cells that are read from the left. Only the wide cells right
-// before it are looked at.
+// The cell that begins at the column, of cells that are read from the left. Of the cells before it,
+// the function reads only the wide ones right before it.
 fn cell_read_at(cells: &[Cell], column: usize) -> Option<CellRef<'_>>
     ensures { option_map shown_by result ≡ cell_at column (row_of_cells cells.now) }
 {
@@ -70,7 +70,7 @@ pub fn cell_at(cells: StoredCells<'_>, column: usize) -> Option<CellRef<'_>>
     }
 }
 
-/// The texts of the cells that begin from `start` on and before `end` go after the text.
+/// Appends the texts of the cells that begin from `start` on and before `end` to the text.
 pub fn push_texts(
     text: &mut String,
     cells: StoredCells<'_>,
@@ -90,7 +90,7 @@ pub fn push_texts(
     Ok(())
 }
 
-/// The texts of the cells go after the text.
+/// Appends the texts of the cells to the text.
 pub fn push_all_texts(text: &mut String, cells: StoredCells<'_>) -> Result<(), AllocError>
     ensures { OnOk result
         (string_bytes text.new ≡ string_bytes text.old ++ texts_joined (visible_cells (stored_row cells.entry))) }

@@ -74,7 +74,7 @@ fn end_edge(row: &ClusteredRow, end: usize) -> Edge<'_>
 impl<'a> RegionIter<'a> {
     ghost use Rattle.cell_views.specs.Region.{region, region_left};
 
-    /// Those from `start` on and before `end`.
+    /// The visible cells from `start` on and before `end`.
     pub fn new(stored: StoredCells<'a>, start: usize, end: usize) -> RegionIter<'a>
         requires order { start ≤ «end» }
         requires within { «end» ≤ length (stored_row stored) }
@@ -86,7 +86,7 @@ impl<'a> RegionIter<'a> {
         }
     }
 
-    // Those of cells that are read from the left.
+    // The region of cells that are read from the left.
     fn of_cells(cells: &'a [Cell], start: usize, end: usize) -> RegionIter<'a>
         requires order { start ≤ «end» }
         requires within { «end» ≤ length cells.now }
@@ -117,7 +117,7 @@ impl<'a> RegionIter<'a> {
         }
     }
 
-    // Those of a clustered row.
+    // The region of a clustered row.
     fn of_clustered(row: &'a ClusteredRow, start: usize, end: usize) -> RegionIter<'a>
         requires order { start ≤ «end» }
         requires within { «end» ≤ length row.now }

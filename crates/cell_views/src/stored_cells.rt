@@ -1,4 +1,4 @@
-//! What a row is kept as.
+//! The stored form of a row.
 ghost use Rattle.std.specs.Prelude.{◌≡◌, length};
 ghost use Rattle.cell_base.specs.WholeRow.{IsWhole};
 ghost use Rattle.cell_views.specs.StoredCells.{stored_row};
@@ -6,11 +6,11 @@ ghost use Rattle.cell_views.specs.StoredCells.{stored_row};
 use cell_base::Cell;
 use clustered_row::ClusteredRow;
 
-/// What a line keeps of its row: cells, or one text and runs of equal attributes.
+/// The stored form of a line's row: cells, or one text and runs of equal attributes.
 #[derive(Clone, Copy)]
 pub enum StoredCells<'a> {
-    /// Read from the left: the cell stored after a wide one isn't looked at, and a wide one with
-    /// none after it is a blank with its attributes.
+    /// Read from the left: the cell stored after a wide one is ignored, and a wide cell with none
+    /// after it is a blank with its attributes.
     Cells(&'a [Cell]),
     /// The row as it is kept, with no cells.
     Clustered(&'a ClusteredRow),
@@ -28,8 +28,8 @@ impl<'a> StoredCells<'a> {
         }
     }
 
-    /// Does nothing; its contract is a law of each row that is kept: after the first column of a wide
-    /// cell stands the second one, with the same attributes, and none stands elsewhere.
+    /// Does nothing; its contract is a law of each stored row: after the first column of a wide cell
+    /// comes its second one, with the same attributes, and there is no other second column.
     #[inline(always)]
     pub fn is_whole(&self)
         ensures { IsWhole (stored_row self.now) }

@@ -7,7 +7,7 @@ use crate::stored_cells::StoredCells;
 use cell_base::Cell;
 use clustered_row::ClusteredCells;
 
-// Those of cells that are read from the left, of which the first stands at a column.
+// The remaining cells of cells that are read from the left; the first is at `cell_index`.
 #[derive(Drop)]
 pub(crate) struct CellsLeft<'a> {
     cells: &'a [Cell],
@@ -53,7 +53,7 @@ impl<'a> Iterator for CellsLeft<'a> {
     }
 }
 
-// Those of a clustered row that are left, and the half after them that an edge leaves.
+// The remaining cells of a clustered row, and the half after them that an edge leaves.
 #[derive(Drop)]
 pub(crate) struct ClusteredLeft<'a> {
     pub(crate) cells: ClusteredCells<'a>,
@@ -80,7 +80,7 @@ impl<'a> Iterator for ClusteredLeft<'a> {
     }
 }
 
-// Those that are left, of either kind of row.
+// The remaining cells, of either kind of row.
 #[derive(Drop)]
 pub(crate) enum Left<'a> {
     Cells(CellsLeft<'a>),
@@ -112,7 +112,7 @@ impl<'a> VisibleCellIter<'a> {
         }
     }
 
-    // Those of cells of which the first stands at a column.
+    // The visible cells of `cells`, the first at column `cell_index`.
     #[inline(always)]
     pub(crate) fn from_column(cells: &'a [Cell], cell_index: usize) -> VisibleCellIter<'a>
         requires { cell_index + length cells.now < 2 ^ 64 }
@@ -123,7 +123,7 @@ impl<'a> VisibleCellIter<'a> {
         }
     }
 
-    // Those of a clustered row that are left, and a half after them.
+    // The remaining cells of a clustered row, and a half after them.
     #[inline(always)]
     pub(crate) fn of_clustered(
         cells: ClusteredCells<'a>,

@@ -5,7 +5,7 @@ use Rattle.std.proofs.lemmas.Bool.Decides.{nat_tests}
 use Rattle.cell_base.specs.Attributes.{Attributes}
 use Rattle.cell_base.specs.Row.{space, columns_of}
 use Rattle.cell_base.specs.Screen.{Screen, height, scrolled, line_feed, carriage_return, cluster_columns, put}
-use Rattle.change_sequence.specs.Sequence.{Place, columns_taken, next_row, stroke_moved, text_moved}
+use Rattle.change_sequence.specs.Sequence.{CellPosition, columns_taken, next_row, stroke_moved, text_moved}
 use Rattle.screen_effects.specs.Display.{Display}
 use Rattle.screen_effects.specs.Strokes.{Stroke, CarriageReturn, LineFeed, Cluster, stroke_done, strokes, text_done}
 
@@ -44,7 +44,7 @@ abbrev from_column : Bool → ℕ → ℕ
 from_column true column = 0
 from_column false column = column
 
-moved_from : (b : Bool) (p : Place) (taken : ℕ) (r : ℤ) → (if b then record { column = taken; row = r } else record p { column = p.column + taken }).column ≡ from_column b p.column + taken
+moved_from : (b : Bool) (p : CellPosition) (taken : ℕ) (r : ℤ) → (if b then record { column = taken; row = r } else record p { column = p.column + taken }).column ≡ from_column b p.column + taken
 moved_from true p taken r = omega arith
 moved_from false p taken r = refl
 
@@ -61,7 +61,7 @@ module _ (width_of : List ℕ → ℕ) where
   stroke_width d LineFeed = fed_width (d.screen.row + 1 == height d.screen) d.screen
   stroke_width d (Cluster text) = put_width (nat_lt d.screen.width (d.screen.column + length (cluster_columns width_of d.screen text))) d.screen
 
-  stroke_column : (d : Display) (p : Place) (stroke : Stroke) → p.column ≡ d.screen.column → (stroke_moved width_of d.screen.width p stroke).column ≡ (stroke_done width_of d stroke).screen.column
+  stroke_column : (d : Display) (p : CellPosition) (stroke : Stroke) → p.column ≡ d.screen.column → (stroke_moved width_of d.screen.width p stroke).column ≡ (stroke_done width_of d stroke).screen.column
   stroke_column d p CarriageReturn e = refl
   stroke_column d p LineFeed e = e ∙ sym (fed_column (d.screen.row + 1 == height d.screen) d.screen)
   stroke_column d p (Cluster text) e =
@@ -74,10 +74,10 @@ module _ (width_of : List ℕ → ℕ) where
       ∙ (λ i. from_column (test i) (e i) + sym count i)
       ∙ ap (λ n. n + length (cluster_columns width_of s text)) (sym (put_from (nat_lt s.width (s.column + length (cluster_columns width_of s text))) s))
 
-  all_columns : (done : List Stroke) (d : Display) (p : Place) (w : ℕ) → w ≡ d.screen.width → p.column ≡ d.screen.column → (fold (stroke_moved width_of w) p done).column ≡ (fold (stroke_done width_of) d done).screen.column
+  all_columns : (done : List Stroke) (d : Display) (p : CellPosition) (w : ℕ) → w ≡ d.screen.width → p.column ≡ d.screen.column → (fold (stroke_moved width_of w) p done).column ≡ (fold (stroke_done width_of) d done).screen.column
   all_columns [] d p w h e = e
   all_columns (stroke ∷ done) d p w h e =
       all_columns done (stroke_done width_of d stroke) (stroke_moved width_of w p stroke) w (h ∙ sym (stroke_width d stroke)) (ap (λ n. (stroke_moved width_of n p stroke).column) h ∙ stroke_column d p stroke e)
 
-  pub text_column : (d : Display) (p : Place) (text : List ℕ) → p.column ≡ d.screen.column → (text_moved width_of d.screen.width p text).column ≡ (text_done width_of d text).screen.column
+  pub text_column : (d : Display) (p : CellPosition) (text : List ℕ) → p.column ≡ d.screen.column → (text_moved width_of d.screen.width p text).column ≡ (text_done width_of d text).screen.column
   text_column d p text e = all_columns (strokes text) d p d.screen.width refl e

@@ -11,11 +11,11 @@ use Rattle.screen_change.specs.ChangeValue.{ScrollRegionDown}
 use Rattle.screen_effects.specs.Strokes.{Stroke, CarriageReturn, LineFeed, Cluster, TextPart, part_strokes, strokes}
 
 -- a column and a row; sums of rows stay in 64 bits
-pub record Place : Type 0 where
+pub record CellPosition : Type 0 where
   pub column : ℕ
   pub row : ℤ
 
-abbrev pub home : Place
+abbrev pub home : CellPosition
 home = record { column = 0; row = pos 0 }
 
 abbrev pub next_row : ℤ → ℤ
@@ -25,8 +25,8 @@ next_row row = saturate_signed w64 (row +ℤ pos 1)
 abbrev pub columns_taken : (List ℕ → ℕ) → ℕ → List ℕ → ℕ
 columns_taken width_of columns cluster = if nat_lt 1 columns && nat_le 2 (width_of cluster) then 2 else 1
 
--- as on a screen of so many columns: what doesn't fit goes to the start of the next row
-abbrev pub stroke_moved : (List ℕ → ℕ) → ℕ → Place → Stroke → Place
+-- as on a screen of `columns` columns: a cluster that doesn't fit goes to the start of the next row
+abbrev pub stroke_moved : (List ℕ → ℕ) → ℕ → CellPosition → Stroke → CellPosition
 stroke_moved width_of columns position CarriageReturn = record position { column = 0 }
 stroke_moved width_of columns position LineFeed = record position { row = next_row position.row }
 stroke_moved width_of columns position (Cluster cluster) =
@@ -35,11 +35,11 @@ stroke_moved width_of columns position (Cluster cluster) =
     else record position { column = position.column + taken }
 
 -- the parts of a text in turn
-abbrev pub parts_moved : (List ℕ → ℕ) → ℕ → Place → List TextPart → Place
+abbrev pub parts_moved : (List ℕ → ℕ) → ℕ → CellPosition → List TextPart → CellPosition
 parts_moved width_of columns position parts =
     fold (stroke_moved width_of columns) position (flat_map part_strokes parts)
 
-abbrev pub text_moved : (List ℕ → ℕ) → ℕ → Place → List ℕ → Place
+abbrev pub text_moved : (List ℕ → ℕ) → ℕ → CellPosition → List ℕ → CellPosition
 text_moved width_of columns position text = fold (stroke_moved width_of columns) position (strokes text)
 
 -- ---- positions: a column is cut below at 0 and taken modulo the columns, a row modulo the rows, with its sign kept
@@ -69,7 +69,7 @@ row_moved rows from (Relative way) = signed_rest (saturate_signed w64 (from +ℤ
 
 -- ---- all changes
 
-abbrev pub change_moved : (List ℕ → ℕ) → ℕ → ℕ → Place → ChangeValue → Place
+abbrev pub change_moved : (List ℕ → ℕ) → ℕ → ℕ → CellPosition → ChangeValue → CellPosition
 change_moved width_of columns rows position (Text text) = text_moved width_of columns position text
 change_moved width_of columns rows position (CursorPosition x y) =
     record { column = column_moved columns position.column x; row = row_moved rows position.row y }
@@ -92,7 +92,7 @@ pub record Sequence (W : Type 0) : Type 0 where
   pub widths : W
   pub columns : ℕ
   pub rows : ℕ
-  pub position : Place
+  pub position : CellPosition
   pub lowest : ℤ
   pub highest : ℤ
   pub changes : List ChangeValue
@@ -119,7 +119,7 @@ pub record HasSome {W : Type 0} (width_of : List ℕ → ℕ) (before after : Se
   pub added : after ≡ with_changes width_of before (take count changes)
 
 -- from one position to another, as far as numbers of 64 bits go
-abbrev pub move_to : Place → ℕ → ℤ → ChangeValue
+abbrev pub move_to : CellPosition → ℕ → ℤ → ChangeValue
 move_to position column row =
     CursorPosition (Relative (saturate_signed w64 (pos column -ℤ pos position.column)))
     (Relative (saturate_signed w64 (row -ℤ position.row)))

@@ -4,21 +4,26 @@ ghost use Rattle.cell_base.specs.Cluster.{clusters};
 ghost use Rattle.screen_effects.specs.Strokes.{Cluster, Control};
 ghost use Rattle.change_sequence.specs.Sequence.{column_moved, most_signed, parts_moved, row_moved, signed_rest};
 ghost use Rattle.change_sequence.specs.Sequence.{stroke_moved, text_moved};
-ghost use Rattle.change_sequence.specs.Places.{place_of};
+ghost use Rattle.change_sequence.specs.Positions.{position_of};
 
 use cell_base::{Position, Widths};
 use screen_effects::{split_at_control, split_control};
 use unicode_segmentation::UnicodeSegmentation;
 
 /// A column and a row.
-pub(crate) type Place = (usize, isize);
+pub(crate) type CellPosition = (usize, isize);
 
 // After a cluster.
-fn after_cluster<W: Widths>(widths: &W, columns: usize, position: Place, cluster: &str) -> Place
+fn after_cluster<W: Widths>(
+    widths: &W,
+    columns: usize,
+    position: CellPosition,
+    cluster: &str,
+) -> CellPosition
     requires within { position.0 ≤ columns }
     requires some { 0 < columns }
-    ensures moved { place_of result
-        ≡ stroke_moved (W.width_of widths.now) columns (place_of position) (Cluster cluster.now) }
+    ensures moved { position_of result
+        ≡ stroke_moved (W.width_of widths.now) columns (position_of position) (Cluster cluster.now) }
     ensures within { result.0 ≤ columns }
 {
     let (column, row) = position;
@@ -36,11 +41,16 @@ fn after_cluster<W: Widths>(widths: &W, columns: usize, position: Place, cluster
 
 // After the clusters of a text.
 #[tactic(auto, using(cell_base::proofs::PlainClusters::clusters_are))]
-fn after_run<W: Widths>(widths: &W, columns: usize, position: Place, text: &str) -> Place
+fn after_run<W: Widths>(
+    widths: &W,
+    columns: usize,
+    position: CellPosition,
+    text: &str,
+) -> CellPosition
     requires within { position.0 ≤ columns }
     requires some { 0 < columns }
-    ensures moved { place_of result
-        ≡ fold (stroke_moved (W.width_of widths.now) columns) (place_of position) (map Cluster (clusters text.now)) }
+    ensures moved { position_of result
+        ≡ fold (stroke_moved (W.width_of widths.now) columns) (position_of position) (map Cluster (clusters text.now)) }
     ensures within { result.0 ≤ columns }
 {
     let mut position = position;
@@ -51,11 +61,16 @@ fn after_run<W: Widths>(widths: &W, columns: usize, position: Place, text: &str)
 }
 
 // After a control in a text.
-fn after_control<W: Widths>(widths: &W, columns: usize, position: Place, control: u8) -> Place
+fn after_control<W: Widths>(
+    widths: &W,
+    columns: usize,
+    position: CellPosition,
+    control: u8,
+) -> CellPosition
     requires within { position.0 ≤ columns }
     requires some { 0 < columns }
-    ensures moved { place_of result
-        ≡ parts_moved (W.width_of widths.now) columns (place_of position) (Control control ∷ []) }
+    ensures moved { position_of result
+        ≡ parts_moved (W.width_of widths.now) columns (position_of position) (Control control ∷ []) }
     ensures within { result.0 ≤ columns }
 {
     let (column, row) = position;
@@ -66,16 +81,16 @@ fn after_control<W: Widths>(widths: &W, columns: usize, position: Place, control
     }
 }
 
-/// After a text, as on a screen of so many columns that doesn't scroll.
+/// The position after a text, as on a screen of `columns` columns that doesn't scroll.
 pub(crate) fn after_text<W: Widths>(
     widths: &W,
     columns: usize,
-    position: Place,
+    position: CellPosition,
     text: &str,
-) -> Place
+) -> CellPosition
     requires within { position.0 ≤ columns }
     requires some { 0 < columns }
-    ensures moved { place_of result ≡ text_moved (W.width_of widths.now) columns (place_of position) text.now }
+    ensures moved { position_of result ≡ text_moved (W.width_of widths.now) columns (position_of position) text.now }
     ensures within { result.0 ≤ columns }
 {
     let (prefix, mut rest) = split_at_control(text);

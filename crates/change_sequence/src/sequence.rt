@@ -2,19 +2,19 @@
 ghost use Rattle.std.specs.Prelude.{◌≡◌, ◌≤◌, ◌<◌, ◌-ℤ◌, [], pos, map, unsigned_abs, IfOk, OnOk, OnErr};
 ghost use Rattle.std.specs.Int.{saturate_signed, w64};
 ghost use Rattle.screen_change.specs.ValueOf.{value_of};
-ghost use Rattle.change_sequence.specs.Places.{place_of};
+ghost use Rattle.change_sequence.specs.Positions.{position_of};
 ghost use Rattle.change_sequence.specs.Sequence.{HasSome, change_moved, home, is_drawn, move_to, with_change};
 ghost use Rattle.change_sequence.specs.Sequence.{with_changes};
 
-use crate::moves::{Place, after_text, as_row, column_of, row_of};
+use crate::moves::{CellPosition, after_text, as_row, column_of, row_of};
 use cell_base::{Position, Widths};
 use screen_change::{Change, cloned_changes};
 use std::alloc::{AllocError, Global};
 use std::marker::Model;
 
-/// Changes in turn, and where they leave the cursor of a screen of so many rows and columns that
-/// doesn't scroll. Columns count from 0, and rows from where the first change stood, so that a row may
-/// be negative.
+/// Changes in turn, and where they leave the cursor of a screen of `rows` rows and `columns` columns
+/// that doesn't scroll. Columns count from 0, and rows from the cursor's row before the first change,
+/// so that a row may be negative.
 #[derive(Drop)]
 pub struct ChangeSequence<W> {
     widths: W,
@@ -52,14 +52,14 @@ fn after<W: Widths>(
     widths: &W,
     columns: usize,
     rows: usize,
-    position: Place,
+    position: CellPosition,
     change: &Change,
-) -> Place
+) -> CellPosition
     requires within { position.0 ≤ columns }
     requires some_columns { 0 < columns }
     requires some_rows { 0 < rows }
-    ensures moved { place_of result
-        ≡ change_moved (W.width_of widths.now) columns rows (place_of position) (value_of change.now) }
+    ensures moved { position_of result
+        ≡ change_moved (W.width_of widths.now) columns rows (position_of position) (value_of change.now) }
     ensures within { result.0 ≤ columns }
 {
     match change {
@@ -78,7 +78,7 @@ fn after<W: Widths>(
 }
 
 impl<W: Widths + Drop> ChangeSequence<W> {
-    /// No changes, for a screen of so many rows and columns, each at least 1.
+    /// No changes, for a screen of `rows` rows and `cols` columns, each at least 1.
     pub fn new(alloc: Global, rows: usize, cols: usize, widths: W) -> ChangeSequence<W>
         requires rows { 0 < rows }
         requires cols { 0 < cols }
@@ -116,7 +116,7 @@ impl<W: Widths + Drop> ChangeSequence<W> {
 
     /// The column and the row where the changes leave the cursor.
     pub fn current_cursor_position(&self) -> (usize, isize)
-        ensures { place_of result ≡ self.now.position }
+        ensures { position_of result ≡ self.now.position }
     {
         (self.column, self.row)
     }

@@ -41,8 +41,8 @@ starts_split-row_of (Own text ∷ fs) (a ∷ ats) e = refl
 starts_split-row_of (Left text ∷ fs) (a ∷ ats) e = refl
 starts_split-row_of (Right ∷ fs) (a ∷ ats) e = refl
 
-pub halved_face : (fs : List Face) (ats : List Attributes) (at : ℕ) → length fs ≡ length ats → is_split at (row_of fs ats) ≡ starts_right (drop at fs)
-halved_face fs ats at e =
+pub split_face : (fs : List Face) (ats : List Attributes) (at : ℕ) → length fs ≡ length ats → is_split at (row_of fs ats) ≡ starts_right (drop at fs)
+split_face fs ats at e =
     ap starts_split (row_of-drop at fs ats) ∙ starts_split-row_of (drop at fs) (drop at ats) (let n = length-drop at fs in let m = length-drop at ats in omega (arith, n, m, e))
 
 starts_before : (xs ys : Row) → 0 < length xs → starts_split (xs ++ ys) ≡ starts_split xs
@@ -51,8 +51,8 @@ starts_before (Narrow text a ∷ xs) ys h = refl
 starts_before (LeftHalf text a ∷ xs) ys h = refl
 starts_before (RightHalf a ∷ xs) ys h = refl
 
-pub halved_before : (xs ys : Row) (at : ℕ) → at < length xs → is_split at (xs ++ ys) ≡ is_split at xs
-halved_before xs ys at h =
+pub split_before : (xs ys : Row) (at : ℕ) → at < length xs → is_split at (xs ++ ys) ≡ is_split at xs
+split_before xs ys at h =
     ap starts_split (drop-append-le at xs ys (omega arith)) ∙ starts_before (drop at xs) ys (let n = length-drop at xs in omega (arith, n, h))
 
 blanks_start : (n k : ℕ) (a : Attributes) → is_split k (replicate n (blank a)) ≡ false
@@ -61,8 +61,8 @@ blanks_start zero (suc k) a = refl
 blanks_start (suc n) zero a = refl
 blanks_start (suc n) (suc k) a = blanks_start n k a
 
-pub halved_after : (xs : Row) (n at : ℕ) (a : Attributes) → length xs ≤ at → is_split at (xs ++ replicate n (blank a)) ≡ false
-halved_after xs n at a h =
+pub split_after : (xs : Row) (n at : ℕ) (a : Attributes) → length xs ≤ at → is_split at (xs ++ replicate n (blank a)) ≡ false
+split_after xs n at a h =
     let k = at - length xs in
     let on : at ≡ length xs + k = omega arith in
     ap (λ m. is_split m (xs ++ replicate n (blank a))) on ∙ ap starts_split (drop-append-add xs (replicate n (blank a)) k) ∙ blanks_start n k a

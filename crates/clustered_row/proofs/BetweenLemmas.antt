@@ -13,10 +13,10 @@ use Rattle.clustered_row.specs.Faces.{Face, column, plain_faces, row_of, starts_
 use Rattle.clustered_row.specs.Position.{IsPosition, IsSplit, IsBefore}
 use Rattle.clustered_row.specs.Sizes.{bytes_of, columns_of, faces_of, is_cut}
 use Rattle.clustered_row.specs.VisibleColumns.{starts_split, is_split}
-use Rattle.clustered_row.proofs.AskedLemmas.{lent_none, halved_before}
+use Rattle.clustered_row.proofs.AskedLemmas.{lent_none, split_before}
 use Rattle.clustered_row.proofs.RowLemmas.{row_of-take, row_of-drop}
 use Rattle.clustered_row.proofs.SizeLemmas.{bytes_split, cut_more}
-use Rattle.clustered_row.proofs.TextLemmas.{Placed, IsAfter, take_front, drop_front, cut_parts, after_front, after_parted, after_taken}
+use Rattle.clustered_row.proofs.TextLemmas.{Placed, IsAfter, take_prefix, drop_prefix, cut_parts, after_prefix, after_parted, after_taken}
 use Rattle.clustered_row.proofs.StepLemmas.{IsSized, fits, a_size, lent_right, sized_columns_within}
 
 -- ---- positions before cells
@@ -35,10 +35,10 @@ before_sized t s sb sc p h q =
       columns = omega (arith, bytes, columns);
     }
 
-pub place_of_before : (t : List ℕ) (s : List CellSize) (sb sc : ℕ) (p : Position) → IsSized t s sb sc → IsBefore t s p → p.columns < sc → IsPosition s p
-place_of_before t s sb sc p h q less = elim (cases_lt p.index (length s)) [
-  | inl in_front ↦ (
-      let bytes = q.sized in_front in
+pub position_of_before : (t : List ℕ) (s : List CellSize) (sb sc : ℕ) (p : Position) → IsSized t s sb sc → IsBefore t s p → p.columns < sc → IsPosition s p
+position_of_before t s sb sc p h q less = elim (cases_lt p.index (length s)) [
+  | inl in_prefix ↦ (
+      let bytes = q.sized in_prefix in
       let columns = q.columns in
       record { within = q.index; bytes = bytes; columns = omega (arith, bytes, columns) })
   | inr after ↦ (
@@ -54,8 +54,8 @@ place_of_before t s sb sc p h q less = elim (cases_lt p.index (length s)) [
 
 pub bytes_before : (t : List ℕ) (s : List CellSize) (sb sc : ℕ) (p : Position) (m at : ℕ) → IsSized t s sb sc → IsBefore t s p → p.columns ≤ at → sb ≤ m → m + sc ≡ sb + at → p.bytes ≤ m
 bytes_before t s sb sc p m at h q order b e = elim (cases_lt p.index (length s)) [
-  | inl in_front ↦ (
-      let bytes = q.sized in_front in
+  | inl in_prefix ↦ (
+      let bytes = q.sized in_prefix in
       let sum = bytes_split p.index s in
       let one = h.bytes_are in
       omega (arith, bytes, sum, one, b))
@@ -88,7 +88,7 @@ pub record IsText (t : List ℕ) (s : List CellSize) : Type 0 where
 pub record IsParted (t : List ℕ) (s : List CellSize) (p : Position) : Type 0 where
   pub prefix : take p.columns (faces_of t s) ≡ faces_of (take p.bytes t) (take p.index s)
   pub rest : drop p.columns (faces_of t s) ≡ faces_of (drop p.bytes t) (drop p.index s)
-  pub front_text : IsText (take p.bytes t) (take p.index s)
+  pub prefix_text : IsText (take p.bytes t) (take p.index s)
   pub rest_text : IsText (drop p.bytes t) (drop p.index s)
 
 parted_in : (t : List ℕ) (s : List CellSize) (p : Position) → IsText t s → IsBefore t s p → p.index < length s → IsParted t s p
@@ -102,9 +102,9 @@ parted_in t s p h q less =
     let m = length-drop p.bytes t in
     let all = bytes_split p.index s in
     record {
-      prefix = take_front t s p.index p.bytes p.columns at;
-      rest = drop_front t s p.index p.bytes p.columns at;
-      front_text = record { bytes = omega (arith, n, bytes); parts = cuts.0 };
+      prefix = take_prefix t s p.index p.bytes p.columns at;
+      rest = drop_prefix t s p.index p.bytes p.columns at;
+      prefix_text = record { bytes = omega (arith, n, bytes); parts = cuts.0 };
       rest_text = record { bytes = omega (arith, m, all, bytes, most); parts = cuts.1 };
     }
 
@@ -124,9 +124,9 @@ parted_after t s p h q past =
     record {
       prefix = after_taken t s p.bytes p.columns at ∙ ap (faces_of (take p.bytes t)) (sym all);
       rest = ap (drop p.columns) (after_parted t s p.bytes p.columns at)
-          ∙ drop_at (faces_of (take p.bytes t) s) (plain_faces (drop p.bytes t)) p.columns (after_front t s p.bytes p.columns at)
+          ∙ drop_at (faces_of (take p.bytes t) s) (plain_faces (drop p.bytes t)) p.columns (after_prefix t s p.bytes p.columns at)
           ∙ ap (faces_of (drop p.bytes t)) (sym none);
-      front_text = record { bytes = omega (arith, n, bytes, some); parts = ap (is_cut (take p.bytes t)) all ∙ both.0 };
+      prefix_text = record { bytes = omega (arith, n, bytes, some); parts = ap (is_cut (take p.bytes t)) all ∙ both.0 };
       rest_text = record { bytes = (let no_bytes = ap bytes_of none in omega (arith, no_bytes)); parts = ap (is_cut (drop p.bytes t)) none ∙ both.1 };
     }
 
@@ -134,8 +134,8 @@ pub parted_before : (t : List ℕ) (s : List CellSize) (p : Position) → IsText
 parted_before t s p h q = elim (cases_lt p.index (length s)) [ inl less ↦ parted_in t s p h q less | inr past ↦ parted_after t s p h q past ]
 
 -- a position before another
-before_in_front : (t : List ℕ) (s : List CellSize) (p q : Position) → IsBefore t s p → IsBefore t s q → p.index ≤ q.index → p.bytes ≤ q.bytes → IsBefore (take q.bytes t) (take q.index s) p
-before_in_front t s p q a b i k =
+before_in_prefix : (t : List ℕ) (s : List CellSize) (p q : Position) → IsBefore t s p → IsBefore t s q → p.index ≤ q.index → p.bytes ≤ q.bytes → IsBefore (take q.bytes t) (take q.index s) p
+before_in_prefix t s p q a b i k =
     let same : take p.index (take q.index s) ≡ take p.index s = take-take p.index q.index s i in
     let n = length-take-le q.index s b.index in
     let m = length-take-le q.bytes t b.within in
@@ -163,12 +163,12 @@ pub record AreBetween (t u : List ℕ) (s v : List CellSize) (from to : ℕ) : T
   pub parts : is_cut u v ≡ true
   pub shown : faces_of u v ≡ drop from (take to (faces_of t s))
 
-pub between_places : (t x : List ℕ) (s v : List CellSize) (sb sc : ℕ) (p q : Position) (from to : ℕ) → IsSized t s sb sc → x ≡ t → v ≡ s → IsBefore t s p → IsBefore t s q
+pub between_positions : (t x : List ℕ) (s v : List CellSize) (sb sc : ℕ) (p q : Position) (from to : ℕ) → IsSized t s sb sc → x ≡ t → v ≡ s → IsBefore t s p → IsBefore t s q
     → p.index ≤ q.index → p.bytes ≤ q.bytes → p.columns ≡ from → q.columns ≡ to
     → AreBetween t (take (q.bytes - p.bytes) (drop p.bytes x)) s (take (q.index - p.index) (drop p.index v)) from to
-between_places t x s v sb sc p q from to h e f a b i k c d =
+between_positions t x s v sb sc p q from to h e f a b i k c d =
     let first = parted_before t s q (record { bytes = fits t s sb sc h; parts = h.parts }) b in
-    let then = parted_before (take q.bytes t) (take q.index s) p first.front_text (before_in_front t s p q a b i k) in
+    let then = parted_before (take q.bytes t) (take q.index s) p first.prefix_text (before_in_prefix t s p q a b i k) in
     let text : drop p.bytes (take q.bytes t) ≡ take (q.bytes - p.bytes) (drop p.bytes x) = part_is t p.bytes q.bytes k ∙ ap (λ (z : List ℕ). take (q.bytes - p.bytes) (drop p.bytes z)) (sym e) in
     let sizes : drop p.index (take q.index s) ≡ take (q.index - p.index) (drop p.index v) = part_is s p.index q.index i ∙ ap (λ (z : List CellSize). take (q.index - p.index) (drop p.index z)) (sym f) in
     let is = subst (λ (z : List ℕ). IsText z (take (q.index - p.index) (drop p.index v))) text (subst (λ (z : List CellSize). IsText (drop p.bytes (take q.bytes t)) z) sizes then.rest_text) in
@@ -201,14 +201,14 @@ pub not_after : (xs : Row) (at : ℕ) → length xs ≤ at → is_split at xs �
 not_after xs at h = ap starts_split (drop_all at xs h)
 
 -- a column of the row, or the end of the columns that were written
-pub halved_within : (xs ys : Row) (at k : ℕ) → k ≡ min at (length xs) → is_split at (xs ++ ys) ≡ false → is_split k xs ≡ false
-halved_within xs ys at k e h = elim (cases_lt at (length xs)) [
-  | inl less ↦ ap (λ n. is_split n xs) (omega (arith, e, less)) ∙ sym (halved_before xs ys at less) ∙ h
+pub split_within : (xs ys : Row) (at k : ℕ) → k ≡ min at (length xs) → is_split at (xs ++ ys) ≡ false → is_split k xs ≡ false
+split_within xs ys at k e h = elim (cases_lt at (length xs)) [
+  | inl less ↦ ap (λ n. is_split n xs) (omega (arith, e, less)) ∙ sym (split_before xs ys at less) ∙ h
   | inr past ↦ not_after xs k (omega (arith, e, past))
 ]
 
-written_front : (xs : Row) (n stop : ℕ) (b : Column) → length xs ≤ stop → stop ≤ length xs + n → take stop (xs ++ replicate n b) ≡ xs ++ replicate (stop - length xs) b
-written_front xs n stop b past w =
+written_prefix : (xs : Row) (n stop : ℕ) (b : Column) → length xs ≤ stop → stop ≤ length xs + n → take stop (xs ++ replicate n b) ≡ xs ++ replicate (stop - length xs) b
+written_prefix xs n stop b past w =
     let on : stop ≡ length xs + (stop - length xs) = omega (arith, past) in
     ap (λ m. take m (xs ++ replicate n b)) on ∙ take-append-add xs (replicate n b) (stop - length xs) ∙ ap (λ (r : Row). xs ++ r) (take-replicate (stop - length xs) n b (omega (arith, w, past)))
 
@@ -235,13 +235,13 @@ module _ (xs : Row) (n start stop from to k : ℕ) (b : Column) (o : start ≤ s
       let count : k ≡ stop - length xs = omega (arith, e, f, g, less, past) in
       (λ i. drop (first i) (take (last i) xs) ++ replicate (count i) b)
       ∙ ap (λ (r : Row). drop start r ++ replicate (stop - length xs) b) (take_all (length xs) xs (omega arith))
-      ∙ sym (ap (drop start) (written_front xs n stop b past w) ∙ drop-append-le start xs (replicate (stop - length xs) b) (omega (arith, less)))
+      ∙ sym (ap (drop start) (written_prefix xs n stop b past w) ∙ drop-append-le start xs (replicate (stop - length xs) b) (omega (arith, less)))
 
   in_blanks : length xs ≤ stop → length xs ≤ start → drop from (take to xs) ++ replicate k b ≡ drop start (take stop (xs ++ replicate n b))
   in_blanks past after =
       let count : k ≡ (stop - length xs) - (start - length xs) = omega (arith, e, f, g, after, past) in
       (λ i. all_before xs from to (omega (arith, f, past)) (omega (arith, e, after)) i ++ replicate (count i) b)
-      ∙ sym (ap (drop start) (written_front xs n stop b past w) ∙ written_after xs (stop - length xs) start b after)
+      ∙ sym (ap (drop start) (written_prefix xs n stop b past w) ∙ written_after xs (stop - length xs) start b after)
 
   -- columns that were written, and blanks after them
   pub blanks_between : drop from (take to xs) ++ replicate k b ≡ drop start (take stop (xs ++ replicate n b))

@@ -12,7 +12,7 @@ use Rattle.clustered_row.specs.Sizes.{bytes_of, columns_of, faces_of}
 use Rattle.clustered_row.proofs.BetweenLemmas.{parted_before}
 use Rattle.clustered_row.proofs.EqualLemmas.{same_copies, starts_plain}
 use Rattle.clustered_row.proofs.RowLemmas.{row_of-drop}
-use Rattle.clustered_row.proofs.RunLists.{after_front, cut_run, drop_next, length_next, length_parts}
+use Rattle.clustered_row.proofs.RunLists.{after_prefix, cut_run, drop_next, length_next, length_parts}
 use Rattle.clustered_row.proofs.StepLemmas.{IsSized, column_count, fits}
 
 -- fewer at the end are the same too
@@ -45,24 +45,24 @@ run_columns_after xs i run k n h e f c =
     let at : length (spread xs) - (n + k) ≡ length (spread (take i xs)) + (run.count - k) = omega (arith, next, all, c, f) in
     let count : run.count - (run.count - k) ≡ k = omega (arith, f) in
     ap (λ m. drop m (spread xs)) at
-    ∙ after_front xs i (run.count - k)
+    ∙ after_prefix xs i (run.count - k)
     ∙ ap (λ (ys : List Run). drop (run.count - k) (spread ys)) (drop_next xs i run h e)
     ∙ cut_run run (drop (i + 1) xs) (run.count - k) (omega arith)
     ∙ ap (λ m. replicate m run.attributes ++ spread (drop (i + 1) xs)) count
 
 -- the place of a run that is found from the end
-next_place : (xs : List Run) (m : ℕ) → m < length xs → length xs - 1 - m + 1 ≡ length xs - m
-next_place xs m h = omega (arith, h)
+next_position : (xs : List Run) (m : ℕ) → m < length xs → length xs - 1 - m + 1 ≡ length xs - m
+next_position xs m h = omega (arith, h)
 
 module _ (xs ys : List Run) (m k n : ℕ) (x y : Run) (h : m < length xs) (g : m < length ys) (e : x ≡ slice_index_or xs (length xs - 1 - m) x) (f : y ≡ slice_index_or ys (length ys - 1 - m) y) (s : drop (length xs - m) xs ≡ drop (length ys - m) ys) (c : n ≡ length (spread (drop (length xs - m) xs))) where
   first : n ≡ length (spread (drop (length xs - 1 - m + 1) xs))
-  first = c ∙ ap (λ i. length (spread (drop i xs))) (sym (next_place xs m h))
+  first = c ∙ ap (λ i. length (spread (drop i xs))) (sym (next_position xs m h))
 
   second : n ≡ length (spread (drop (length ys - 1 - m + 1) ys))
-  second = c ∙ ap (λ (zs : List Run). length (spread zs)) s ∙ ap (λ i. length (spread (drop i ys))) (sym (next_place ys m g))
+  second = c ∙ ap (λ (zs : List Run). length (spread zs)) s ∙ ap (λ i. length (spread (drop i ys))) (sym (next_position ys m g))
 
   rest : drop (length xs - 1 - m + 1) xs ≡ drop (length ys - 1 - m + 1) ys
-  rest = ap (λ i. drop i xs) (next_place xs m h) ∙ s ∙ ap (λ i. drop i ys) (sym (next_place ys m g))
+  rest = ap (λ i. drop i xs) (next_position xs m h) ∙ s ∙ ap (λ i. drop i ys) (sym (next_position ys m g))
 
   pub same_part_after : k ≤ x.count → k ≤ y.count → (0 < k → x.attributes ≡ y.attributes) → drop (length (spread xs) - (n + k)) (spread xs) ≡ drop (length (spread ys) - (n + k)) (spread ys)
   same_part_after p q a =
@@ -89,7 +89,7 @@ counted_after xs m n x h e c =
     let next = length_next xs (length xs - 1 - m) x (omega (arith, h)) e in
     let one = length_parts xs (length xs - 1 - m) in
     let two = length_parts xs (length xs - 1 - m + 1) in
-    let more = c ∙ ap (λ i. length (spread (drop i xs))) (sym (next_place xs m h)) in
+    let more = c ∙ ap (λ i. length (spread (drop i xs))) (sym (next_position xs m h)) in
     let count : n + x.count ≡ length (spread (drop (length xs - 1 - m) xs)) = omega (arith, next, one, two, more) in
     count ∙ ap (λ i. length (spread (drop i xs))) (sym here)
 
@@ -97,7 +97,7 @@ whole_after : (xs : List Run) (i n : ℕ) → n ≡ length (spread (drop i xs)) 
 whole_after xs i n c =
     let all = length_parts xs i in
     let at : length (spread xs) - n ≡ length (spread (take i xs)) + 0 = omega (arith, all, c) in
-    ap (λ m. drop m (spread xs)) at ∙ after_front xs i 0
+    ap (λ m. drop m (spread xs)) at ∙ after_prefix xs i 0
 
 pub same_runs_after : (xs ys : List Run) (m n : ℕ) → drop (length xs - m) xs ≡ drop (length ys - m) ys → n ≡ length (spread (drop (length xs - m) xs)) → drop (length (spread xs) - n) (spread xs) ≡ drop (length (spread ys) - n) (spread ys)
 same_runs_after xs ys m n s c =

@@ -17,11 +17,11 @@ use Rattle.clustered_row.specs.Runs.{spread}
 use Rattle.clustered_row.specs.RunSteps.{counted}
 use Rattle.clustered_row.specs.Sizes.{bytes_of, columns_of, faces_of}
 use Rattle.clustered_row.specs.VisibleColumns.{is_split}
-use Rattle.clustered_row.proofs.AskedLemmas.{halved_before, halved_after}
+use Rattle.clustered_row.proofs.AskedLemmas.{split_before, split_after}
 use Rattle.clustered_row.proofs.BetweenLemmas.{IsText, not_after, parted_before, written_after}
 use Rattle.clustered_row.proofs.PartLemmas.{start_closed, end_closed}
 use Rattle.clustered_row.proofs.RowLemmas.{row_of-take}
-use Rattle.clustered_row.proofs.RunLists.{around, cut_prefix, length_next, length_parts, spread_last, whole_front}
+use Rattle.clustered_row.proofs.RunLists.{around, cut_prefix, length_next, length_parts, spread_last, whole_prefix}
 use Rattle.clustered_row.proofs.ShownLemmas.{shown}
 use Rattle.clustered_row.proofs.StepLemmas.{fits, sized_of}
 
@@ -60,19 +60,19 @@ part_within xs i k n x h e c p =
 pub runs_within : (xs : List Run) (i n : ℕ) → n ≡ length (spread (take i xs)) → n ≤ length (spread xs)
 runs_within xs i n c = let all = length_parts xs i in omega (arith, all, c)
 
-pub same_runs_front : (xs ys : List Run) (i n : ℕ) → take i xs ≡ take i ys → n ≡ length (spread (take i xs)) → take n (spread xs) ≡ take n (spread ys)
-same_runs_front xs ys i n s c =
+pub same_runs_prefix : (xs ys : List Run) (i n : ℕ) → take i xs ≡ take i ys → n ≡ length (spread (take i xs)) → take n (spread xs) ≡ take n (spread ys)
+same_runs_prefix xs ys i n s c =
     let d = c ∙ ap (λ (zs : List Run). length (spread zs)) s in
-    ap (λ m. take m (spread xs)) c ∙ whole_front xs i ∙ ap spread s ∙ sym (whole_front ys i) ∙ ap (λ m. take m (spread ys)) (sym d)
+    ap (λ m. take m (spread xs)) c ∙ whole_prefix xs i ∙ ap spread s ∙ sym (whole_prefix ys i) ∙ ap (λ m. take m (spread ys)) (sym d)
 
 -- ---- positions
 
-pub same_place : (s v : List CellSize) (p : Position) → IsPosition s p → p.index ≤ length v → take p.index s ≡ take p.index v → IsPosition v p
-same_place s v p k h e = record { within = h; bytes = k.bytes ∙ ap bytes_of e; columns = k.columns ∙ ap columns_of e }
+pub same_position : (s v : List CellSize) (p : Position) → IsPosition s p → p.index ≤ length v → take p.index s ≡ take p.index v → IsPosition v p
+same_position s v p k h e = record { within = h; bytes = k.bytes ∙ ap bytes_of e; columns = k.columns ∙ ap columns_of e }
 
 -- so many plain cells after a position that follows all sizes
-pub plain_place : (t : List ℕ) (s : List CellSize) (p q : Position) (n : ℕ) → IsPosition s p → length s ≤ p.index → q.index ≡ p.index → q.bytes ≡ p.bytes + n → q.columns ≡ p.columns + n → q.bytes ≤ length t → IsBefore t s q
-plain_place t s p q n k past i b c w =
+pub plain_position : (t : List ℕ) (s : List CellSize) (p q : Position) (n : ℕ) → IsPosition s p → length s ≤ p.index → q.index ≡ p.index → q.bytes ≡ p.bytes + n → q.columns ≡ p.columns + n → q.bytes ≤ length t → IsBefore t s q
+plain_position t s p q n k past i b c w =
     let same : take q.index s ≡ take p.index s = ap (λ m. take m s) i in
     let bytes : p.bytes ≡ bytes_of (take q.index s) = k.bytes ∙ ap bytes_of (sym same) in
     let columns : p.columns ≡ columns_of (take q.index s) = k.columns ∙ ap columns_of (sym same) in
@@ -100,8 +100,8 @@ starts_faces t [] = starts_plain t
 starts_faces t (z ∷ s) = starts_cell z.is_wide (take z.len t) (faces_of (drop z.len t) s)
 
 -- no cell is cut at a position
-pub whole_place : (t : List ℕ) (s : List CellSize) (p : Position) → IsText t s → IsBefore t s p → starts_right (drop p.columns (faces_of t s)) ≡ false
-whole_place t s p h k = ap starts_right (parted_before t s p h k).rest ∙ starts_faces (drop p.bytes t) (drop p.index s)
+pub whole_position : (t : List ℕ) (s : List CellSize) (p : Position) → IsText t s → IsBefore t s p → starts_right (drop p.columns (faces_of t s)) ≡ false
+whole_position t s p h k = ap starts_right (parted_before t s p h k).rest ∙ starts_faces (drop p.bytes t) (drop p.index s)
 
 -- texts that are the same up to a position show the same before it
 pub same_faces : (t u : List ℕ) (s v : List CellSize) (p : Position) → IsText t s → IsText u v → IsBefore t s p → IsBefore u v p → take p.bytes t ≡ take p.bytes u → take p.index s ≡ take p.index v
@@ -115,10 +115,10 @@ same_columns fs gs ats bs n most h e f =
     row_of-take n fs ats ∙ (λ i. row_of (e i) (fewer ats bs n most h f i)) ∙ sym (row_of-take n gs bs)
 
 -- no cell is cut after columns where none is cut in the columns that were written
-halved_front : (c : Row) (n k : ℕ) (a : Attributes) → is_split n c ≡ false → is_split n (c ++ replicate k (blank a)) ≡ false
-halved_front c n k a h = elim (cases_lt n (length c)) [
-  | inl less ↦ halved_before c (replicate k (blank a)) n less ∙ h
-  | inr past ↦ halved_after c k n a past
+split_prefix : (c : Row) (n k : ℕ) (a : Attributes) → is_split n c ≡ false → is_split n (c ++ replicate k (blank a)) ≡ false
+split_prefix c n k a h = elim (cases_lt n (length c)) [
+  | inl less ↦ split_before c (replicate k (blank a)) n less ∙ h
+  | inr past ↦ split_after c k n a past
 ]
 
 -- no cell is cut there, then, in a row that is whole
@@ -140,10 +140,10 @@ module _ (c d : Row) (n m w v : ℕ) (a b : Attributes) (whole : IsWhole c) (oth
         order = omega (arith, i, p);
         prefix = take-append-le n c (replicate (w - length c) (blank a)) i ∙ e ∙ sym (take-append-le n d (replicate (v - length d) (blank b)) j);
         back = back;
-        first = whole_at n (shown c w a) all_whole (halved_front c n (w - length c) a h);
-        other_first = whole_at n (shown d v b) other_all_whole (halved_front d n (v - length d) b k);
-        last = whole_at m (shown c w a) all_whole (halved_after c (w - length c) m a p);
-        other_last = whole_at m (shown d v b) other_all_whole (halved_after d (v - length d) m b q);
+        first = whole_at n (shown c w a) all_whole (split_prefix c n (w - length c) a h);
+        other_first = whole_at n (shown d v b) other_all_whole (split_prefix d n (v - length d) b k);
+        last = whole_at m (shown c w a) all_whole (split_after c (w - length c) m a p);
+        other_last = whole_at m (shown d v b) other_all_whole (split_after d (v - length d) m b q);
       }
 
   -- the last columns that were written are the same, and so are the blanks after them
@@ -154,10 +154,10 @@ module _ (c d : Row) (n m w v : ℕ) (a b : Attributes) (whole : IsWhole c) (oth
         order = i;
         prefix = take-append-le n c (replicate (w - length c) (blank a)) (omega (arith, i, p)) ∙ e ∙ sym (take-append-le n d (replicate (v - length d) (blank b)) j);
         back = drop-append-le m c (replicate (w - length c) (blank a)) p ∙ (λ i. back i ++ replicate (x i - q i) (blank (y i))) ∙ sym (drop-append-le m d (replicate (v - length d) (blank b)) (omega (arith, p, q)));
-        first = whole_at n (shown c w a) all_whole (halved_front c n (w - length c) a h);
-        other_first = whole_at n (shown d v b) other_all_whole (halved_front d n (v - length d) b k);
-        last = whole_at m (shown c w a) all_whole (halved_front c m (w - length c) a f);
-        other_last = whole_at m (shown d v b) other_all_whole (halved_front d m (v - length d) b g);
+        first = whole_at n (shown c w a) all_whole (split_prefix c n (w - length c) a h);
+        other_first = whole_at n (shown d v b) other_all_whole (split_prefix d n (v - length d) b k);
+        last = whole_at m (shown c w a) all_whole (split_prefix c m (w - length c) a f);
+        other_last = whole_at m (shown d v b) other_all_whole (split_prefix d m (v - length d) b g);
       }
 
 -- blanks alone are left all columns that were written

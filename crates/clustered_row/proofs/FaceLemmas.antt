@@ -158,13 +158,13 @@ drop-half : (prefix after : List Face) (f : Face) (at : ℕ) → length prefix �
 drop-half prefix after f at n =
     ap (drop (at + 1)) (sym (append_assoc prefix (f ∷ []) after)) ∙ drop_at (prefix ++ f ∷ []) after (at + 1) (omega (arith, length_push prefix f))
 
-pub halved_end : (prefix after : List Face) (text : List ℕ) (at : ℕ) → length prefix ≡ at
+pub split_end : (prefix after : List Face) (text : List ℕ) (at : ℕ) → length prefix ≡ at
     → closed_end (take (at + 1) (prefix ++ (Left text ∷ Right ∷ after))) ≡ prefix ++ Own space ∷ []
-halved_end prefix after text at n = ap closed_end (take-half prefix (Right ∷ after) (Left text) at n) ∙ closed_end-push prefix (Left text)
+split_end prefix after text at n = ap closed_end (take-half prefix (Right ∷ after) (Left text) at n) ∙ closed_end-push prefix (Left text)
 
-pub halved : (prefix after : List Face) (text : List ℕ) (at : ℕ) → length prefix ≡ at
+pub was_split : (prefix after : List Face) (text : List ℕ) (at : ℕ) → length prefix ≡ at
     → opened (at + 1) (prefix ++ (Left text ∷ Right ∷ after)) ≡ prefix ++ (Own space ∷ Own space ∷ after)
-halved prefix after text at n =
-    let p = halved_end prefix after text at n in
+was_split prefix after text at n =
+    let p = split_end prefix after text at n in
     let q = ap closed_start (drop-half prefix (Right ∷ after) (Left text) at n) in
     (λ i. p i ++ q i) ∙ append_assoc prefix (Own space ∷ []) (Own space ∷ after)

@@ -12,7 +12,7 @@ use Rattle.clustered_row.specs.Runs.{spread, AreMaximal, is_begun}
 use Rattle.clustered_row.specs.RunSteps.{column_at, IsPosition}
 use Rattle.clustered_row.specs.Sizes.{is_text, is_cut}
 use Rattle.clustered_row.proofs.SizeLemmas.{IsUtf8-cell, IsUtf8-cut}
-use Rattle.clustered_row.proofs.RunLists.{drop_maximal, after_front}
+use Rattle.clustered_row.proofs.RunLists.{drop_maximal, after_prefix}
 
 -- ---- runs
 
@@ -60,7 +60,7 @@ pub left_there : (bs cs xs : List Run) (position : Position) (column : ℕ) → 
     → drop position.offset (spread (take (length bs - position.index) (drop position.index bs))) ≡ drop column (spread xs)
 left_there bs cs xs position column p q e =
     let at : column_at xs position ≡ column = ap (λ (ys : List Run). column_at ys position) (sym q) ∙ e ∙ omega arith in
-    ap (λ (ys : List Run). drop position.offset (spread ys)) (rest_of position.index bs ∙ ap (drop position.index) p) ∙ sym (after_front xs position.index position.offset) ∙ ap (λ n. drop n (spread xs)) at
+    ap (λ (ys : List Run). drop position.offset (spread ys)) (rest_of position.index bs ∙ ap (drop position.index) p) ∙ sym (after_prefix xs position.index position.offset) ∙ ap (λ n. drop n (spread xs)) at
 
 -- ---- texts
 

@@ -55,16 +55,16 @@ half_starts (LeftHalf text a ∷ row) d h = absurd (false≢true h)
 half_starts (RightHalf a ∷ row) d h = refl
 
 -- the second half of a wide text at the start is a blank with its attributes
-pub start_halved : (n : ℕ) (row : Row) (d : Column) → is_split n row ≡ true → cut_prefix n row ≡ blank (column_attributes (get_or row n d)) ∷ drop (n + 1) row
-start_halved zero row d h = half_starts row d h
-start_halved (suc n) [] d h = absurd (false≢true h)
-start_halved (suc n) (c ∷ row) d h =
+pub start_split : (n : ℕ) (row : Row) (d : Column) → is_split n row ≡ true → cut_prefix n row ≡ blank (column_attributes (get_or row n d)) ∷ drop (n + 1) row
+start_split zero row d h = half_starts row d h
+start_split (suc n) [] d h = absurd (false≢true h)
+start_split (suc n) (c ∷ row) d h =
     let more : suc (n + 1) ≡ suc n + 1 = omega arith in
-    start_halved n row d h ∙ ap (λ k. blank (column_attributes (get_or row n d)) ∷ drop k (c ∷ row)) more
+    start_split n row d h ∙ ap (λ k. blank (column_attributes (get_or row n d)) ∷ drop k (c ∷ row)) more
 
 -- the first half of a wide text at the end is a blank with its attributes
-pub end_halved : (n : ℕ) (row : Row) (d : Column) → IsWhole row → is_split (n + 1) row ≡ true → closed_end (take (n + 1) row) ≡ take n row ++ blank (column_attributes (get_or row (n + 1) d)) ∷ []
-end_halved n row d w h = at_suc n (n + 1) row d (omega arith) w h
+pub end_split : (n : ℕ) (row : Row) (d : Column) → IsWhole row → is_split (n + 1) row ≡ true → closed_end (take (n + 1) row) ≡ take n row ++ blank (column_attributes (get_or row (n + 1) d)) ∷ []
+end_split n row d w h = at_suc n (n + 1) row d (omega arith) w h
   where
     at_suc : (n m : ℕ) (row : Row) (d : Column) → m ≡ suc n → IsWhole row → is_split m row ≡ true → closed_end (take m row) ≡ take n row ++ blank (column_attributes (get_or row m d)) ∷ []
     at_suc n zero row d e w h = absurd (omega (arith, e))

@@ -35,12 +35,12 @@ first_other : (s : CellSize) (sizes : List CellSize) → is_plain s ≡ false �
 first_other s sizes e = ap (λ t. cond t (1 + prefix_len is_plain sizes) 0) e
 
 -- the sizes at the start up to one that isn't plain
-pub plain_front : (n : ℕ) (sizes : List CellSize) → list_all is_plain (take (prefix_len is_plain (take n sizes)) sizes) ≡ true
-plain_front zero sizes = refl
-plain_front (suc n) [] = refl
-plain_front (suc n) (s ∷ sizes) = by_test (is_plain s)
+pub plain_prefix : (n : ℕ) (sizes : List CellSize) → list_all is_plain (take (prefix_len is_plain (take n sizes)) sizes) ≡ true
+plain_prefix zero sizes = refl
+plain_prefix (suc n) [] = refl
+plain_prefix (suc n) (s ∷ sizes) = by_test (is_plain s)
     (λ e. let more : prefix_len is_plain (s ∷ take n sizes) ≡ suc (prefix_len is_plain (take n sizes)) = first_plain s (take n sizes) e in
-    ap (λ m. list_all is_plain (take m (s ∷ sizes))) more ∙ and_from (is_plain s) (list_all is_plain (take (prefix_len is_plain (take n sizes)) sizes)) e (plain_front n sizes))
+    ap (λ m. list_all is_plain (take m (s ∷ sizes))) more ∙ and_from (is_plain s) (list_all is_plain (take (prefix_len is_plain (take n sizes)) sizes)) e (plain_prefix n sizes))
     (λ e. ap (λ m. list_all is_plain (take m (s ∷ sizes))) (first_other s (take n sizes) e))
 
 all_of : (sizes : List CellSize) → length sizes ≤ prefix_len is_plain sizes → list_all is_plain sizes ≡ true

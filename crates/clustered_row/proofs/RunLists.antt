@@ -4,7 +4,7 @@ use Rattle.std.proofs.lemmas.List.{append-nil, take-append-le, take-replicate, d
 use Rattle.std.proofs.lemmas.List.Concat.{flat_map-append}
 use Rattle.std.proofs.Math.Seq.{take-append-add, drop-append-add}
 use Rattle.clustered_row.specs.declared.run.Run.{Run}
-use Rattle.clustered_row.specs.Runs.{columns_of, spread, IsApart, AreMaximal}
+use Rattle.clustered_row.specs.Runs.{columns_of, spread, IsMaximal, AreMaximal}
 use Rattle.clustered_row.specs.RunSteps.{counted}
 
 -- a list around one of its runs
@@ -40,12 +40,12 @@ length_next xs i run within is =
     ap (λ ys. length (spread ys)) (take_next xs i run within is) ∙ ap length (spread_last (take i xs) run) ∙ length-append (spread (take i xs)) (columns_of run) ∙ ap (λ n. length (spread (take i xs)) + n) (length_columns run)
 
 -- the columns of whole runs
-pub whole_front : (xs : List Run) (i : ℕ) → take (length (spread (take i xs))) (spread xs) ≡ spread (take i xs)
-whole_front xs i = ap (λ ys. take (length (spread (take i xs))) ys) (spread_parts xs i) ∙ take_at (spread (take i xs)) (spread (drop i xs)) (length (spread (take i xs))) refl
+pub whole_prefix : (xs : List Run) (i : ℕ) → take (length (spread (take i xs))) (spread xs) ≡ spread (take i xs)
+whole_prefix xs i = ap (λ ys. take (length (spread (take i xs))) ys) (spread_parts xs i) ∙ take_at (spread (take i xs)) (spread (drop i xs)) (length (spread (take i xs))) refl
 
 -- the columns so many after whole runs
-pub after_front : (xs : List Run) (i k : ℕ) → drop (length (spread (take i xs)) + k) (spread xs) ≡ drop k (spread (drop i xs))
-after_front xs i k =
+pub after_prefix : (xs : List Run) (i k : ℕ) → drop (length (spread (take i xs)) + k) (spread xs) ≡ drop k (spread (drop i xs))
+after_prefix xs i k =
     ap (λ ys. drop (length (spread (take i xs)) + k) ys) (spread_parts xs i) ∙ drop-append-add (spread (take i xs)) (spread (drop i xs)) k
 
 within_run : (k : ℕ) (run : Run) → k ≤ run.count → k ≤ length (columns_of run)
@@ -66,22 +66,22 @@ cut_run run after k fits =
 
 -- Maximal runs
 
-take_apart : (run : Run) (i : ℕ) (xs : List Run) → IsApart run xs → IsApart run (take i xs)
-take_apart run zero xs h = tt
-take_apart run (suc i) [] h = tt
-take_apart run (suc i) (x ∷ xs) h = h
+take_is_maximal : (run : Run) (i : ℕ) (xs : List Run) → IsMaximal run xs → IsMaximal run (take i xs)
+take_is_maximal run zero xs h = tt
+take_is_maximal run (suc i) [] h = tt
+take_is_maximal run (suc i) (x ∷ xs) h = h
 
 pub take_maximal : (i : ℕ) (xs : List Run) → AreMaximal xs → AreMaximal (take i xs)
 take_maximal zero xs h = tt
 take_maximal (suc i) [] h = tt
-take_maximal (suc i) (x ∷ xs) h = (h.0, take_apart x i xs h.1, take_maximal i xs h.2)
+take_maximal (suc i) (x ∷ xs) h = (h.0, take_is_maximal x i xs h.1, take_maximal i xs h.2)
 
 pub drop_maximal : (i : ℕ) (xs : List Run) → AreMaximal xs → AreMaximal (drop i xs)
 drop_maximal zero xs h = h
 drop_maximal (suc i) [] h = tt
 drop_maximal (suc i) (x ∷ xs) h = drop_maximal i xs h.2
 
-other_head : (x : Run) (prefix : List Run) (r s : Run) → r.attributes ≡ s.attributes → IsApart x (prefix ++ r ∷ []) → IsApart x (prefix ++ s ∷ [])
+other_head : (x : Run) (prefix : List Run) (r s : Run) → r.attributes ≡ s.attributes → IsMaximal x (prefix ++ r ∷ []) → IsMaximal x (prefix ++ s ∷ [])
 other_head x [] r s same h = λ e. h (e ∙ sym same)
 other_head x (y ∷ prefix) r s same h = h
 
@@ -90,7 +90,7 @@ pub other_last : (prefix : List Run) (r s : Run) → r.attributes ≡ s.attribut
 other_last [] r s same some h = (some, tt, tt)
 other_last (x ∷ prefix) r s same some h = (h.0, other_head x prefix r s same h.1, other_last prefix r s same some h.2)
 
-joined_head : (x : Run) (prefix : List Run) (r : Run) (after : List Run) → IsApart x (prefix ++ r ∷ []) → IsApart x (prefix ++ r ∷ after)
+joined_head : (x : Run) (prefix : List Run) (r : Run) (after : List Run) → IsMaximal x (prefix ++ r ∷ []) → IsMaximal x (prefix ++ r ∷ after)
 joined_head x [] r after h = h
 joined_head x (y ∷ prefix) r after h = h
 
@@ -105,7 +105,7 @@ some_last (x ∷ prefix) last h = some_last prefix last h.2
 
 -- one run more
 pub one_more : (prefix : List Run) (last r : Run) → AreMaximal (prefix ++ last ∷ []) → (last.attributes ≡ r.attributes → last.count ≡ 4294967295) → 0 < r.count → AreMaximal (prefix ++ last ∷ (r ∷ []))
-one_more prefix last r h apart some = joined prefix last (r ∷ []) h (some_last prefix last h, apart, (some, tt, tt))
+one_more prefix last r h independent some = joined prefix last (r ∷ []) h (some_last prefix last h, independent, (some, tt, tt))
 
 no_room : (run y : Run) (after : List Run) → run.count ≡ 4294967295 → 0 < y.count → run.count + length (spread (y ∷ after)) ≤ 4294967295 → ⊥
 no_room run y after full some fits =

@@ -11,7 +11,7 @@ use Rattle.clustered_row.specs.declared.run.Run.{Run}
 use Rattle.clustered_row.specs.declared.run.Position.{Position}
 use Rattle.clustered_row.specs.Runs.{columns_of, spread, AreMaximal}
 use Rattle.clustered_row.specs.RunSteps.{counted, column_at, IsPosition, IsParted}
-use Rattle.clustered_row.proofs.RunLists.{around, take_next, drop_next, spread-append, spread_last, length_parts, length_columns, length_next, whole_front, after_front, cut_prefix, cut_run, take_maximal, drop_maximal, other_last, some_last, one_more, other_first}
+use Rattle.clustered_row.proofs.RunLists.{around, take_next, drop_next, spread-append, spread_last, length_parts, length_columns, length_next, whole_prefix, after_prefix, cut_prefix, cut_run, take_maximal, drop_maximal, other_last, some_last, one_more, other_first}
 
 -- a number is below another that isn't at most it
 pub below : (m n : ℕ) → (n ≤ m → ⊥) → m < n
@@ -27,8 +27,8 @@ found runs position run d at within is =
     let P : Run → Type 0 = λ r. position.offset < length (columns_of r) in
     get_or-flat_map columns_of runs position.index position.offset run d within (subst P is fits) ∙ ap (λ (r : Run). slice_index_or (columns_of r) position.offset d) (sym is) ∙ get_or-replicate run.count position.offset run.attributes d inside
 
-pub place_within : (runs : List Run) (position : Position) → IsPosition runs position → column_at runs position < length (spread runs) → position.index < length runs
-place_within runs position at less =
+pub position_within : (runs : List Run) (position : Position) → IsPosition runs position → column_at runs position < length (spread runs) → position.index < length runs
+position_within runs position at less =
     below position.index (length runs) (λ past. let all : length (spread (take position.index runs)) ≡ length (spread runs) = ap (λ ys. length (spread ys)) (take_all position.index runs past) in omega arith)
 
 -- The last run
@@ -56,9 +56,9 @@ recounted_maximal xs n last s long is same some h =
 
 -- one run more after a last one that is full, or has other attributes
 pub more_maximal : (xs : List Run) (n : ℕ) (last s r : Run) → length xs ≡ n + 1 → last ≡ slice_index_or xs n last → last.attributes ≡ s.attributes → (s.attributes ≡ r.attributes → s.count ≡ 4294967295) → 0 < s.count → 0 < r.count → AreMaximal xs → AreMaximal (slice_set xs n s ++ r ∷ [])
-more_maximal xs n last s r long is same apart some more h =
+more_maximal xs n last s r long is same independent some more h =
     subst AreMaximal (sym (append_assoc (take n xs) (s ∷ []) (r ∷ [])) ∙ ap (λ ys. ys ++ r ∷ []) (sym (set_last xs n s long)))
-    (one_more (take n xs) s r (other_last (take n xs) last s same some (subst AreMaximal (last_of xs n last long is) h)) apart more)
+    (one_more (take n xs) s r (other_last (take n xs) last s same some (subst AreMaximal (last_of xs n last long is) h)) independent more)
 
 pub some_columns : (xs : List Run) (n : ℕ) (last : Run) → length xs ≡ n + 1 → last ≡ slice_index_or xs n last → AreMaximal xs → 0 < last.count
 some_columns xs n last long is h = some_last (take n xs) last (subst AreMaximal (last_of xs n last long is) h)
@@ -69,8 +69,8 @@ grown_maximal xs n by last long is h =
     recounted_maximal xs n last (counted last (last.count + by)) long is refl (omega arith) h
 
 pub pushed_maximal : (xs : List Run) (r : Run) → 0 < r.count → ((last : Run) → 0 < length xs → last ≡ slice_index_or xs (length xs - 1) last → last.attributes ≡ r.attributes → last.count ≡ 4294967295) → AreMaximal xs → AreMaximal (xs ++ r ∷ [])
-pushed_maximal [] r some apart h = (some, tt, tt)
-pushed_maximal (x ∷ ys) r some apart h =
+pushed_maximal [] r some independent h = (some, tt, tt)
+pushed_maximal (x ∷ ys) r some independent h =
     let xs = x ∷ ys in
     let n = length ys in
     let last : Run = slice_index_or xs n x in
@@ -79,7 +79,7 @@ pushed_maximal (x ∷ ys) r some apart h =
     let here : n ≡ length xs - 1 = omega arith in
     let e = last_of xs n last long is in
     subst AreMaximal (sym (append_assoc (take n xs) (last ∷ []) (r ∷ [])) ∙ ap (λ zs. zs ++ r ∷ []) (sym e))
-    (one_more (take n xs) last r (subst AreMaximal e h) (apart last (omega arith) (is ∙ ap (λ m. slice_index_or xs m last) here)) some)
+    (one_more (take n xs) last r (subst AreMaximal e h) (independent last (omega arith) (is ∙ ap (λ m. slice_index_or xs m last) here)) some)
 
 -- the last run is filled, and one more after it
 pub filled_columns : (xs : List Run) (n by : ℕ) (last r : Run) → length xs ≡ n + 1 → last ≡ slice_index_or xs n last → last.attributes ≡ r.attributes → spread (slice_set (xs ++ r ∷ []) n (counted last (last.count + by))) ≡ spread xs ++ replicate (by + r.count) r.attributes
@@ -139,18 +139,18 @@ parted_whole xs from to at order none h =
     let here : length (spread (take from.index xs)) ≡ column_at xs from = omega arith in
     let long = length_parts xs to.index in
     record {
-      prefix = sym (whole_front xs from.index) ∙ ap (λ n. take n (spread xs)) here;
-      after = sym (after_front xs to.index to.offset);
+      prefix = sym (whole_prefix xs from.index) ∙ ap (λ n. take n (spread xs)) here;
+      after = sym (after_prefix xs to.index to.offset);
       order = order;
       at = at;
       fewer = omega (arith, long);
-      front_maximal = take_maximal from.index xs h;
+      prefix_maximal = take_maximal from.index xs h;
       after_maximal = drop_maximal to.index xs h;
     }
 
 -- a position after a run that has another count
-pub place_after : (xs : List Run) (i : ℕ) (s : Run) (position : Position) → i < position.index → IsPosition xs position → IsPosition (slice_set xs i s) position
-place_after xs i s position less at =
+pub position_after : (xs : List Run) (i : ℕ) (s : Run) (position : Position) → i < position.index → IsPosition xs position → IsPosition (slice_set xs i s) position
+position_after xs i s position less at =
     let long = length-set xs i s in
     record {
       within = omega (arith, long, at.within);
@@ -171,11 +171,11 @@ parted_run xs from to run here there less some within is h =
     let same : length (spread (drop to.index new)) ≡ length (spread (drop to.index xs)) = ap (λ ys. length (spread ys)) last in
     record {
       prefix = ap spread first ∙ sym (cut_prefix (take i xs) run (drop (i + 1) xs) from.offset (omega arith)) ∙ ap (λ ys. take (column_at xs from) (spread ys)) (sym (around xs i run within is));
-      after = ap (λ ys. drop to.offset (spread ys)) last ∙ sym (after_front xs to.index to.offset);
+      after = ap (λ ys. drop to.offset (spread ys)) last ∙ sym (after_prefix xs to.index to.offset);
       order = omega arith;
-      at = place_after xs i s to less there;
+      at = position_after xs i s to less there;
       fewer = omega (arith, long, same);
-      front_maximal = subst AreMaximal (sym first) (other_last (take i xs) run s refl some (subst AreMaximal (take_next xs i run within is) (take_maximal (i + 1) xs h)));
+      prefix_maximal = subst AreMaximal (sym first) (other_last (take i xs) run s refl some (subst AreMaximal (take_next xs i run within is) (take_maximal (i + 1) xs h)));
       after_maximal = subst AreMaximal (sym last) (drop_maximal to.index xs h);
     }
 
@@ -197,8 +197,8 @@ rest_maximal xs i k run within is less fits h =
 abbrev pub in_two : List Run → ℕ → Run → ℕ → List Run
 in_two xs i run k = slice_set (take (i + 1) xs ++ counted run (run.count - k) ∷ drop (i + 1) xs) i (counted run k)
 
-two_front : (xs : List Run) (i k : ℕ) (run : Run) → i < length xs → take (i + 1) (in_two xs i run k) ≡ take i xs ++ counted run k ∷ []
-two_front xs i k run within =
+two_prefix : (xs : List Run) (i k : ℕ) (run : Run) → i < length xs → take (i + 1) (in_two xs i run k) ≡ take i xs ++ counted run k ∷ []
+two_prefix xs i k run within =
     let prefix = take (i + 1) xs in
     let all = prefix ++ counted run (run.count - k) ∷ drop (i + 1) xs in
     let few : length prefix ≡ i + 1 = length-take-le (i + 1) xs (omega arith) in
@@ -238,7 +238,7 @@ parted_two xs i k m run within is some less inside fits h =
     let after = drop (i + 1) xs in
     let new = in_two xs i run k in
     let at = length (spread (take i xs)) in
-    let first = two_front xs i k run within in
+    let first = two_prefix xs i k run within in
     let second = two_after xs i k run within in
     let grown = two_length xs i k run within in
     let long = length_parts xs i in
@@ -247,7 +247,7 @@ parted_two xs i k m run within is some less inside fits h =
     let left : run.count - k - (m - k) ≡ run.count - m = omega arith in
     record {
       prefix = ap spread first ∙ sym (cut_prefix (take i xs) run after k (omega arith)) ∙ ap (λ ys. take (at + k) (spread ys)) (sym (around xs i run within is));
-      after = ap (λ ys. drop (m - k) (spread ys)) second ∙ cut_run rest after (m - k) (omega arith) ∙ ap (λ n. spread (counted run n ∷ after)) left ∙ rest_columns xs i m run within is (omega arith) ∙ sym (after_front xs i m);
+      after = ap (λ ys. drop (m - k) (spread ys)) second ∙ cut_run rest after (m - k) (omega arith) ∙ ap (λ n. spread (counted run n ∷ after)) left ∙ rest_columns xs i m run within is (omega arith) ∙ sym (after_prefix xs i m);
       order = omega arith;
       at = record {
         within = omega (arith, grown);
@@ -255,14 +255,14 @@ parted_two xs i k m run within is some less inside fits h =
         after = λ e. absurd (omega (arith, grown));
       };
       fewer = omega (arith, long, part, whole);
-      front_maximal = subst AreMaximal (sym first) (other_last (take i xs) run s refl some (subst AreMaximal (take_next xs i run within is) (take_maximal (i + 1) xs h)));
+      prefix_maximal = subst AreMaximal (sym first) (other_last (take i xs) run s refl some (subst AreMaximal (take_next xs i run within is) (take_maximal (i + 1) xs h)));
       after_maximal = subst AreMaximal (sym second) (rest_maximal xs i k run within is (omega arith) (omega (arith, long)) (drop_maximal i xs h));
     }
 
 -- Runs are removed
 
-pub moved_front : (xs old : List Run) (from to k : ℕ) (d : Run) → from < to → to + k < length xs → length xs ≡ length old → take (from + k) xs ≡ take from old ++ take k (drop to old) → drop (to + k) xs ≡ drop (to + k) old → take (from + (k + 1)) (swap xs (from + k) (to + k)) ≡ take from old ++ take (k + 1) (drop to old)
-moved_front xs old from to k d less within long done left =
+pub moved_prefix : (xs old : List Run) (from to k : ℕ) (d : Run) → from < to → to + k < length xs → length xs ≡ length old → take (from + k) xs ≡ take from old ++ take k (drop to old) → drop (to + k) xs ≡ drop (to + k) old → take (from + (k + 1)) (swap xs (from + k) (to + k)) ≡ take from old ++ take (k + 1) (drop to old)
+moved_prefix xs old from to k d less within long done left =
     let i = from + k in
     let j = to + k in
     let y = slice_index_or xs j d in
@@ -297,11 +297,11 @@ joined_columns xs n last run within is same =
     sym (append_assoc (spread (take n xs)) (replicate last.count run.attributes) (columns_of run)) ∙ ap (λ a. spread (take n xs) ++ replicate last.count a ++ columns_of run) (sym same) ∙
     ap (λ ys. ys ++ columns_of run) (sym (spread_last (take n xs) last) ∙ ap spread (sym (take_next xs n last within is)))
 
-pub joined_front : (xs : List Run) (n : ℕ) (last s : Run) → n < length xs → last ≡ slice_index_or xs n last → last.attributes ≡ s.attributes → 0 < s.count → AreMaximal (take (n + 1) xs) → AreMaximal (take n xs ++ s ∷ [])
-joined_front xs n last s within is same some h = other_last (take n xs) last s same some (subst AreMaximal (take_next xs n last within is) h)
+pub joined_prefix : (xs : List Run) (n : ℕ) (last s : Run) → n < length xs → last ≡ slice_index_or xs n last → last.attributes ≡ s.attributes → 0 < s.count → AreMaximal (take (n + 1) xs) → AreMaximal (take n xs ++ s ∷ [])
+joined_prefix xs n last s within is same some h = other_last (take n xs) last s same some (subst AreMaximal (take_next xs n last within is) h)
 
-pub apart_front : (xs : List Run) (n : ℕ) (last s : Run) → n < length xs → last ≡ slice_index_or xs n last → (last.attributes ≡ s.attributes → ⊥) → 0 < s.count → AreMaximal (take (n + 1) xs) → AreMaximal (take (n + 1) xs ++ s ∷ [])
-apart_front xs n last s within is differ some h =
+pub independent_prefix : (xs : List Run) (n : ℕ) (last s : Run) → n < length xs → last ≡ slice_index_or xs n last → (last.attributes ≡ s.attributes → ⊥) → 0 < s.count → AreMaximal (take (n + 1) xs) → AreMaximal (take (n + 1) xs ++ s ∷ [])
+independent_prefix xs n last s within is differ some h =
     let e = take_next xs n last within is in
     subst AreMaximal (sym (append_assoc (take n xs) (last ∷ []) (s ∷ [])) ∙ ap (λ ys. ys ++ s ∷ []) (sym e)) (one_more (take n xs) last s (subst AreMaximal e h) (λ same. absurd (differ same)) some)
 
@@ -335,17 +335,17 @@ pub next_part : (run : Run) (after : List Run) (skip count skipped part : ℕ) �
 next_part run after skip count skipped part e f =
     let c = run.count in
     let a = run.attributes in
-    let gone : skip - length (columns_of run) ≡ skip - skipped = let g = length_columns run in omega (arith, e, g) in
+    let dropped : skip - length (columns_of run) ≡ skip - skipped = let g = length_columns run in omega (arith, e, g) in
     let left : c - skip ≡ c - skipped = omega (arith, e) in
     let rest = drop (skip - skipped) (spread after) in
     let prefix : take count (replicate (c - skipped) a) ≡ replicate part a = take_some count (c - skipped) part a f in
     let more : count - length (replicate (c - skipped) a) ≡ count - part = let g = length-replicate (c - skipped) a in omega (arith, f, g) in
-    ap (λ ys. take count ys) (drop_over skip (columns_of run) (spread after) ∙ ap (λ n. drop skip (columns_of run) ++ drop n (spread after)) gone ∙ ap (λ ys. ys ++ rest) (drop-replicate skip c a ∙ ap (λ n. replicate n a) left)) ∙
+    ap (λ ys. take count ys) (drop_over skip (columns_of run) (spread after) ∙ ap (λ n. drop skip (columns_of run) ++ drop n (spread after)) dropped ∙ ap (λ ys. ys ++ rest) (drop-replicate skip c a ∙ ap (λ n. replicate n a) left)) ∙
     take_over count (replicate (c - skipped) a) rest ∙ ap (λ ys. ys ++ take (count - length (replicate (c - skipped) a)) rest) prefix ∙ ap (λ n. replicate part a ++ take n rest) more
 
 -- lists that begin alike
-pub same_front : (xs ys : List Run) (k n : ℕ) → k ≤ n → take n xs ≡ take n ys → take k xs ≡ take k ys
-same_front xs ys k n less e = sym (take-take k n xs less) ∙ ap (λ zs. take k zs) e ∙ take-take k n ys less
+pub same_prefix : (xs ys : List Run) (k n : ℕ) → k ≤ n → take n xs ≡ take n ys → take k xs ≡ take k ys
+same_prefix xs ys k n less e = sym (take-take k n xs less) ∙ ap (λ zs. take k zs) e ∙ take-take k n ys less
 
 pub counts_of : (xs ys : List Attributes) (r s : Run) → xs ++ columns_of r ≡ ys ++ columns_of s → length xs + r.count ≡ length ys + s.count
 counts_of xs ys r s e =

@@ -232,15 +232,15 @@ two_or_space text = by_cases (shows_as_space text)
 
 module _ (f : List ℕ → ℕ) (room : ℕ) (text : List ℕ) (sizes : List CellSize) (n : ℕ) (rest : List ℕ) (w : IsWalked f room text sizes n rest) where
   -- what the cells are cut from
-  pub walk_front : take (length text - length rest) text ≡ w.prefix
-  walk_front =
+  pub walk_prefix : take (length text - length rest) text ≡ w.prefix
+  walk_prefix =
       let whole = w.whole in
       let long = length-append w.prefix rest in
       let count : length w.prefix ≡ length text - length rest = omega (arith, ap length whole, long) in
       ap (take (length text - length rest)) whole ∙ take_at w.prefix rest (length text - length rest) count
 
   pub walk_boundary : IsUtf8 text → IsCharBoundary text (length text - length rest)
-  walk_boundary u = IsCharBoundary-from_take text (length text - length rest) u (omega arith) (subst IsUtf8 (sym walk_front) (IsUtf8-cut w.prefix sizes w.cut))
+  walk_boundary u = IsCharBoundary-from_take text (length text - length rest) u (omega arith) (subst IsUtf8 (sym walk_prefix) (IsUtf8-cut w.prefix sizes w.cut))
 
   module _ (row : Row) (at end : ℕ) (a : Attributes) (order : at ≤ end) (within : end ≤ length row) (rooms : room ≡ end - at) where
     leads_to : (next : Row) → next ≡ overlaid row at (cells_of w.prefix sizes a) → Leads f end a row at text next (at + n) rest
@@ -258,5 +258,5 @@ module _ (f : List ℕ → ℕ) (room : ℕ) (text : List ℕ) (sizes : List Cel
         let fits = w.within in
         let faced : length (faces_of w.prefix sizes) ≡ n = length-cells w.prefix sizes bytes ∙ columns in
         let count : length (row_of (faces_of w.prefix sizes) (replicate n a)) ≡ n = length-row_of (faces_of w.prefix sizes) (replicate n a) (faced ∙ sym (length-replicate n a)) ∙ faced in
-        leads_to next (is ∙ ap (λ t. set_columns row at (row_of (faces_of t sizes) (replicate n a))) (e ∙ walk_front)
+        leads_to next (is ∙ ap (λ t. set_columns row at (row_of (faces_of t sizes) (replicate n a))) (e ∙ walk_prefix)
         ∙ sym (cells_set row at w.prefix sizes n a bytes columns some count (omega (arith, order, within, rooms, fits))))

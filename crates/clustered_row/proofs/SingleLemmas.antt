@@ -7,7 +7,7 @@ use Rattle.std.proofs.lemmas.Bool.Decides.{leb_tells, nat_tests}
 use Rattle.std.proofs.lemmas.List.{take_at}
 use Rattle.std.proofs.lemmas.Str.{encode_ascii, IsUtf8-take}
 use Rattle.text_clusters.specs.Independent.{is_independent, BeginsWith}
-use Rattle.text_clusters.proofs.ApartLemmas.{single_seam}
+use Rattle.text_clusters.proofs.IndependentLemmas.{single_seam}
 use Rattle.cell_base.specs.Attributes.{Attributes}
 use Rattle.cell_base.specs.CellContent.{cell_of, shows_as_space}
 use Rattle.cell_edits.specs.CellList.{cell_columns}

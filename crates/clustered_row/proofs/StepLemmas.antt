@@ -16,7 +16,7 @@ use Rattle.clustered_row.specs.Faces.{Own, Right, first_face, plain_faces, close
 use Rattle.clustered_row.specs.Position.{IsPosition, IsSplit}
 use Rattle.clustered_row.specs.Sizes.{width_of, bytes_of, columns_of, is_plain, ends_plain, faces_of, is_cut}
 use Rattle.clustered_row.proofs.SizeLemmas.{bytes_of-append, columns_of-append, bytes_split, columns_split, bytes_next, columns_next, columns_few, columns_many, join, cut_join, width_bounds, IsUtf8-cut, length-faces, faces_more, cut_more, plain_sizes, plain_sums, plain_copies, ends_plain-push, second_column}
-use Rattle.clustered_row.proofs.TextLemmas.{Placed, IsAfter, replaced, replaced_cut, replaced_bytes, replaced_columns, halved_at, closed_at_place, closed_in_wide, cut_in_wide, cut_parts, opened_at_place, after_cut, after_stays_cut, after_set, after_set_cut, face_at_place, face_in_wide, cell_kept, cell_utf8}
+use Rattle.clustered_row.proofs.TextLemmas.{Placed, IsAfter, replaced, replaced_cut, replaced_bytes, replaced_columns, split_cell_at, closed_at_position, closed_in_wide, cut_in_wide, cut_parts, opened_at_position, after_cut, after_stays_cut, after_set, after_set_cut, face_at_position, face_in_wide, cell_kept, cell_utf8}
 
 -- the sizes of the first cells of a text, with their sums
 pub record IsSized (t : List ℕ) (s : List CellSize) (bytes columns : ℕ) : Type 0 where
@@ -111,14 +111,14 @@ cut_shown t now s m at e p = ap (λ x. faces_of x s) e ∙ after_cut t s m at p
 
 -- ---- a cut at a position
 
-place_bytes : (s : List CellSize) (p : Position) → IsPosition s p → p.bytes ≤ bytes_of s
-place_bytes s p q = let k = bytes_split p.index s in omega (arith, k)
+position_bytes : (s : List CellSize) (p : Position) → IsPosition s p → p.bytes ≤ bytes_of s
+position_bytes s p q = let k = bytes_split p.index s in omega (arith, k)
 
-pub cut_at_place_sized : (t now : List ℕ) (s sizes : List CellSize) (sb sc : ℕ) (p : Position) → now ≡ take p.bytes t → sizes ≡ take p.index s → IsSized t s sb sc → IsPosition s p
+pub cut_at_position_sized : (t now : List ℕ) (s sizes : List CellSize) (sb sc : ℕ) (p : Position) → now ≡ take p.bytes t → sizes ≡ take p.index s → IsSized t s sb sc → IsPosition s p
     → IsSized now sizes p.bytes p.columns
-cut_at_place_sized t now s sizes sb sc p e k h q =
+cut_at_position_sized t now s sizes sb sc p e k h q =
     let at = placed t s sb sc p h q in
-    let le = place_bytes s p q in
+    let le = position_bytes s p q in
     let n = length-take-le p.bytes t (omega arith) in
     subst (λ x. IsSized x sizes p.bytes p.columns) (sym e) (subst (λ x. IsSized (take p.bytes t) x p.bytes p.columns) (sym k) (record {
       bytes_are = q.bytes;
@@ -127,16 +127,16 @@ cut_at_place_sized t now s sizes sb sc p e k h q =
       parts = (cut_parts t s p.index p.bytes p.columns at h.parts).0;
     }))
 
-pub cut_at_place_shown : (t now : List ℕ) (s sizes : List CellSize) (sb sc : ℕ) (p : Position) (at : ℕ) → now ≡ take p.bytes t → sizes ≡ take p.index s → IsSized t s sb sc → IsPosition s p
+pub cut_at_position_shown : (t now : List ℕ) (s sizes : List CellSize) (sb sc : ℕ) (p : Position) (at : ℕ) → now ≡ take p.bytes t → sizes ≡ take p.index s → IsSized t s sb sc → IsPosition s p
     → p.columns ≡ at → faces_of now sizes ≡ closed_end (take at (faces_of t s))
-cut_at_place_shown t now s sizes sb sc p at e k h q same =
-    (λ i. faces_of (e i) (k i)) ∙ closed_at_place t s p.index p.bytes p.columns (placed t s sb sc p h q) ∙ ap (λ n. closed_end (take n (faces_of t s))) same
+cut_at_position_shown t now s sizes sb sc p at e k h q same =
+    (λ i. faces_of (e i) (k i)) ∙ closed_at_position t s p.index p.bytes p.columns (placed t s sb sc p h q) ∙ ap (λ n. closed_end (take n (faces_of t s))) same
 
 pub cut_in_wide_sized : (t now : List ℕ) (s sizes : List CellSize) (sb sc : ℕ) (p : Position) → now ≡ take p.bytes t ++ 32 ∷ [] → sizes ≡ take p.index s → IsSized t s sb sc → IsPosition s p
     → IsSized now sizes p.bytes p.columns
 cut_in_wide_sized t now s sizes sb sc p e k h q =
     let at = placed t s sb sc p h q in
-    let le = place_bytes s p q in
+    let le = position_bytes s p q in
     let n = length-take-le p.bytes t (omega arith) in
     let m = length_push (take p.bytes t) 32 in
     subst (λ x. IsSized x sizes p.bytes p.columns) (sym e) (subst (λ x. IsSized (take p.bytes t ++ 32 ∷ []) x p.bytes p.columns) (sym k) (record {
@@ -218,8 +218,8 @@ replaced_sized t u now s v sizes sb sc p q e k h a b bytes columns cut =
     let to = placed t s sb sc q h b in
     let whole = h.within in
     let sum = h.bytes_are in
-    let one = place_bytes s p a in
-    let other = place_bytes s q b in
+    let one = position_bytes s p a in
+    let other = position_bytes s q b in
     let n = length-take-le p.bytes t (omega arith) in
     let m = length-append (take p.bytes t) (u ++ drop q.bytes t) in
     let l = length-append u (drop q.bytes t) in
@@ -242,9 +242,9 @@ replaced_shown t u now s v sizes sb sc p q e k h a b bytes =
 -- ---- positions
 
 -- the position after the cell that stands there
-pub next_place : (s : List CellSize) (p q : Position) (d : CellSize) → IsPosition s p → p.index < length s
+pub next_position : (s : List CellSize) (p q : Position) (d : CellSize) → IsPosition s p → p.index < length s
     → q.index ≡ p.index + 1 → q.bytes ≡ p.bytes + (get_or s p.index d).len → q.columns ≡ p.columns + width_of (get_or s p.index d).is_wide → IsPosition s q
-next_place s p q d a l i b c =
+next_position s p q d a l i b c =
     let bytes = bytes_next s p.index d l in
     let columns = columns_next s p.index d l in
     record {
@@ -264,38 +264,38 @@ next_fits s p d a l =
     (omega (arith, bytes, one), omega (arith, columns, two))
 
 -- a column that is not after the cell is its first one, or the second one of a wide cell
-pub found_halved : (s : List CellSize) (p : Position) (at : ℕ) (d : CellSize) → p.index < length s → p.columns < at → at < p.columns + width_of (get_or s p.index d).is_wide → IsSplit s p at d
-found_halved s p at d l less more =
+pub found_split : (s : List CellSize) (p : Position) (at : ℕ) (d : CellSize) → p.index < length s → p.columns < at → at < p.columns + width_of (get_or s p.index d).is_wide → IsSplit s p at d
+found_split s p at d l less more =
     let w = second_column (get_or s p.index d).is_wide p.columns at less more in
     record { within = l; wide = w.0; column = w.1 }
 
-pub place_past : (s : List CellSize) (p : Position) → IsPosition s p → length s ≤ p.index → p.columns ≡ columns_of s
-place_past s p a l = a.columns ∙ ap columns_of (take_all p.index s l)
+pub position_past : (s : List CellSize) (p : Position) → IsPosition s p → length s ≤ p.index → p.columns ≡ columns_of s
+position_past s p a l = a.columns ∙ ap columns_of (take_all p.index s l)
 
 -- ---- a wide cell that becomes two spaces
 
-pub halved_shown : (t : List ℕ) (s : List CellSize) (sb sc : ℕ) (p : Position) (at : ℕ) (d : CellSize) → IsSized t s sb sc → IsPosition s p → IsSplit s p at d
+pub split_shown : (t : List ℕ) (s : List CellSize) (sb sc : ℕ) (p : Position) (at : ℕ) (d : CellSize) → IsSized t s sb sc → IsPosition s p → IsSplit s p at d
     → take p.columns (faces_of t s) ++ (Own space ∷ Own space ∷ drop (p.columns + 2) (faces_of t s)) ≡ opened at (faces_of t s)
-halved_shown t s sb sc p at d h a w =
-    halved_at t s p.index p.bytes p.columns d (placed t s sb sc p h a) w.within w.wide ∙ ap (λ n. opened n (faces_of t s)) (sym w.column)
+split_shown t s sb sc p at d h a w =
+    split_cell_at t s p.index p.bytes p.columns d (placed t s sb sc p h a) w.within w.wide ∙ ap (λ n. opened n (faces_of t s)) (sym w.column)
 
 pub opened_here : (t : List ℕ) (s : List CellSize) (sb sc : ℕ) (p : Position) (at : ℕ) → IsSized t s sb sc → IsPosition s p → p.columns ≡ at → faces_of t s ≡ opened at (faces_of t s)
 opened_here t s sb sc p at h a e =
-    opened_at_place t s p.index p.bytes p.columns (placed t s sb sc p h a) ∙ ap (λ n. opened n (faces_of t s)) e
+    opened_at_position t s p.index p.bytes p.columns (placed t s sb sc p h a) ∙ ap (λ n. opened n (faces_of t s)) e
 
 -- where the first of the two spaces ends
-pub halved_count : (s now : List CellSize) (i : ℕ) (plain : CellSize) → i < length s → take (i + 1) now ≡ take i s ++ plain ∷ [] → i + 1 ≤ length now
-halved_count s now i plain l e =
+pub split_count : (s now : List CellSize) (i : ℕ) (plain : CellSize) → i < length s → take (i + 1) now ≡ take i s ++ plain ∷ [] → i + 1 ≤ length now
+split_count s now i plain l e =
     let n = length-take (i + 1) now in
     let m = length-take-le i s (omega arith) in
     let k = length_push (take i s) plain in
     let same = ap length e in
     omega (arith, n, m, k, same)
 
-pub halved_place : (s now : List CellSize) (p q : Position) (plain : CellSize) → is_plain plain ≡ true → p.index < length s → take (p.index + 1) now ≡ take p.index s ++ plain ∷ [] → IsPosition s p
+pub split_position : (s now : List CellSize) (p q : Position) (plain : CellSize) → is_plain plain ≡ true → p.index < length s → take (p.index + 1) now ≡ take p.index s ++ plain ∷ [] → IsPosition s p
     → q.index ≡ p.index + 1 → q.bytes ≡ p.bytes + 1 → q.columns ≡ p.columns + 1 → IsPosition now q
-halved_place s now p q plain k l e a i b c =
-    let count = halved_count s now p.index plain l e in
+split_position s now p q plain k l e a i b c =
+    let count = split_count s now p.index plain l e in
     let one = plain_sums (plain ∷ []) (and_from (is_plain plain) true k refl) in
     let one_byte = one.0 in
     let one_column = one.1 in
@@ -353,14 +353,14 @@ padded_if false t now s sb sc n len e l m h = sized_same t now s s sb sc e refl 
 pub a_size : CellSize
 a_size = record { len = 1; is_wide = false; some = omega arith }
 
-pub place_order : (s : List CellSize) (p q : Position) → IsPosition s p → IsPosition s q → p.index ≤ q.index → p.bytes ≤ q.bytes
-place_order s p q a b le =
+pub position_order : (s : List CellSize) (p q : Position) → IsPosition s p → IsPosition s q → p.index ≤ q.index → p.bytes ≤ q.bytes
+position_order s p q a b le =
     let k = bytes_split p.index (take q.index s) in
     let same = ap bytes_of (take-take p.index q.index s le) in
     omega (arith, k, same)
 
-pub place_within : (t : List ℕ) (s : List CellSize) (sb sc : ℕ) (p : Position) → IsSized t s sb sc → IsPosition s p → p.bytes ≤ sb
-place_within t s sb sc p h a = let k = place_bytes s p a in omega (arith, k)
+pub position_within : (t : List ℕ) (s : List CellSize) (sb sc : ℕ) (p : Position) → IsSized t s sb sc → IsPosition s p → p.bytes ≤ sb
+position_within t s sb sc p h a = let k = position_bytes s p a in omega (arith, k)
 
 pub half_bytes : (s : List CellSize) (p : Position) (at : ℕ) (d : CellSize) → IsPosition s p → IsSplit s p at d → p.bytes + 1 ≤ bytes_of s
 half_bytes s p at d a w =
@@ -374,15 +374,15 @@ next_read s p x a l e =
     let k = next_fits s p x a l in
     subst (λ (y : CellSize). (p.bytes + y.len ≤ bytes_of s) × (p.columns + width_of y.is_wide ≤ columns_of s)) (sym e) k
 
-pub next_place_read : (s : List CellSize) (p q : Position) (x : CellSize) → IsPosition s p → p.index < length s → x ≡ get_or s p.index x
+pub next_position_read : (s : List CellSize) (p q : Position) (x : CellSize) → IsPosition s p → p.index < length s → x ≡ get_or s p.index x
     → q.index ≡ p.index + 1 → q.bytes ≡ p.bytes + x.len → q.columns ≡ p.columns + width_of x.is_wide → IsPosition s q
-next_place_read s p q x a l e i b c =
-    next_place s p q x a l i (b ∙ ap (λ (y : CellSize). p.bytes + y.len) e) (c ∙ ap (λ (y : CellSize). p.columns + width_of y.is_wide) e)
+next_position_read s p q x a l e i b c =
+    next_position s p q x a l i (b ∙ ap (λ (y : CellSize). p.bytes + y.len) e) (c ∙ ap (λ (y : CellSize). p.columns + width_of y.is_wide) e)
 
-pub found_halved_read : (s : List CellSize) (p : Position) (at : ℕ) (x d : CellSize) → p.index < length s → p.columns < at → at < p.columns + width_of x.is_wide → x ≡ get_or s p.index x → IsSplit s p at d
-found_halved_read s p at x d l less more e =
+pub found_split_read : (s : List CellSize) (p : Position) (at : ℕ) (x d : CellSize) → p.index < length s → p.columns < at → at < p.columns + width_of x.is_wide → x ≡ get_or s p.index x → IsSplit s p at d
+found_split_read s p at x d l less more e =
     let same : x ≡ get_or s p.index d = e ∙ get_or_default s p.index x d l in
-    found_halved s p at d l less (subst (λ (y : CellSize). at < p.columns + width_of y.is_wide) same more)
+    found_split s p at d l less (subst (λ (y : CellSize). at < p.columns + width_of y.is_wide) same more)
 
 pub plain_within : (t : List ℕ) (s : List CellSize) (sb sc m at n : ℕ) → IsSized t s sb sc → m + sc ≡ sb + at → at + n ≤ length (faces_of t s) → m + n ≤ length t
 plain_within t s sb sc m at n h e k = let c = column_count t s sb sc (length t) h refl in omega (arith, c)
@@ -432,9 +432,9 @@ last_sums s p x a some e =
       a.columns ∙ ap (λ n. columns_of (take n s)) on ∙ columns_next s (p.index - 1) x l ∙ ap (λ (y : CellSize). columns_of (take (p.index - 1) s) + width_of y.is_wide) (sym e),
     )
 
-pub place_before : (s : List CellSize) (p q : Position) (x : CellSize) → IsPosition s p → 1 ≤ p.index → x ≡ get_or s (p.index - 1) x
+pub position_before : (s : List CellSize) (p q : Position) (x : CellSize) → IsPosition s p → 1 ≤ p.index → x ≡ get_or s (p.index - 1) x
     → q.index + 1 ≡ p.index → q.bytes + x.len ≡ p.bytes → q.columns + width_of x.is_wide ≡ p.columns → IsPosition s q
-place_before s p q x a some e i b c =
+position_before s p q x a some e i b c =
     let sums = last_sums s p x a some e in
     let bytes = sums.0 in
     let columns = sums.1 in
@@ -470,8 +470,8 @@ pub wide_or_narrow : (s : List CellSize) (i : ℕ) (d : CellSize) → 1 ≤ widt
 wide_or_narrow s i d = (width_bounds (get_or s i d).is_wide).0
 
 -- where no column of the last position is before it, a position before a column is no last one
-pub place_inside : (s : List CellSize) (p last : Position) (at : ℕ) → IsPosition s p → IsPosition s last → at ≤ last.columns → p.columns < at → p.index < length s
-place_inside s p last at a b le less =
+pub position_inside : (s : List CellSize) (p last : Position) (at : ℕ) → IsPosition s p → IsPosition s last → at ≤ last.columns → p.columns < at → p.index < length s
+position_inside s p last at a b le less =
     let k = index_order s p last a b (omega arith) in
     let within = b.within in
     omega (arith, k, within)
@@ -480,7 +480,7 @@ place_inside s p last at a b le less =
 pub split_point : (t : List ℕ) (s : List CellSize) (sb sc : ℕ) (p : Position) → IsSized t s sb sc → IsPosition s p → IsSplitPoint t p.bytes
 split_point t s sb sc p h a =
     let at = placed t s sb sc p h a in
-    let le : p.bytes ≤ length t = let k = place_bytes s p a in let f = fits t s sb sc h in omega (arith, k, f) in
+    let le : p.bytes ≤ length t = let k = position_bytes s p a in let f = fits t s sb sc h in omega (arith, k, f) in
     let after = IsUtf8-cut (drop p.bytes t) (drop p.index s) (cut_parts t s p.index p.bytes p.columns at h.parts).1 in
     let boundary = IsCharBoundary-from_drop t p.bytes le after in
     (le, λ _ l. boundary.1 l)
@@ -489,7 +489,7 @@ split_point t s sb sc p h a =
 
 index_inside_by : (s : List CellSize) (p : Position) → IsPosition s p → p.columns < columns_of s → (p.index < length s) ⊎ (length s ≤ p.index) → p.index < length s
 index_inside_by s p a less (inl h) = h
-index_inside_by s p a less (inr h) = let k = place_past s p a h in absurd (omega (arith, k, less))
+index_inside_by s p a less (inr h) = let k = position_past s p a h in absurd (omega (arith, k, less))
 
 pub index_inside : (s : List CellSize) (p : Position) → IsPosition s p → p.columns < columns_of s → p.index < length s
 index_inside s p a less = index_inside_by s p a less (cases_lt p.index (length s))
@@ -499,7 +499,7 @@ pub lent_cell : (t : List ℕ) (s : List CellSize) (sb sc : ℕ) (p : Position) 
 lent_cell t s sb sc p x at h a l e same =
     let len : x.len ≡ p.bytes + x.len - p.bytes = omega arith in
     ap (λ n. get_or (faces_of t s) n Right) (sym same)
-    ∙ face_at_place t s p.index p.bytes p.columns x (placed t s sb sc p h a) l
+    ∙ face_at_position t s p.index p.bytes p.columns x (placed t s sb sc p h a) l
     ∙ ap (λ (y : CellSize). first_face y.is_wide (take y.len (drop p.bytes t))) (sym e)
     ∙ ap (λ n. first_face x.is_wide (take n (drop p.bytes t))) len
 

@@ -11,7 +11,7 @@ use Rattle.text_clusters.specs.Plain.{is_printable}
 use Rattle.clustered_row.specs.declared.cell_size.CellSize.{CellSize}
 use Rattle.clustered_row.specs.Faces.{Face, Own, Left, Right, cell_faces, first_face, plain_faces, closed_end, closed_start, opened, set_faces}
 use Rattle.clustered_row.specs.Sizes.{bytes_of, columns_of, faces_of, is_text, is_cut}
-use Rattle.clustered_row.proofs.FaceLemmas.{closed_start-plain, halved, halved_end, opened_whole}
+use Rattle.clustered_row.proofs.FaceLemmas.{closed_start-plain, was_split, split_end, opened_whole}
 use Rattle.clustered_row.proofs.SizeLemmas.{bytes_of-append, columns_of-append, bytes_split, columns_split, length-faces, join, cut_join, faces_more, cut_more, closed_end-faces, closed_start-faces, IsUtf8-cell, IsUtf8-cut, kept_first, kept_plain}
 
 -- ---- a position between cells: so many cells before it, with so many bytes and columns
@@ -28,8 +28,8 @@ before t s i b c p = let bytes = p.bytes in let within = p.within in omega (arit
 whole : (t : List ℕ) (s : List CellSize) (i b c : ℕ) → Placed t s i b c → bytes_of (take i s) ≡ length (take b t)
 whole t s i b c p = sym p.bytes ∙ sym (length-take-le b t (before t s i b c p))
 
-pub front_columns : (t : List ℕ) (s : List CellSize) (i b c : ℕ) → Placed t s i b c → length (faces_of (take b t) (take i s)) ≡ c
-front_columns t s i b c p =
+pub prefix_columns : (t : List ℕ) (s : List CellSize) (i b c : ℕ) → Placed t s i b c → length (faces_of (take b t) (take i s)) ≡ c
+prefix_columns t s i b c p =
     let w = whole t s i b c p in
     let n = length-faces (take b t) (take i s) (omega (arith, w)) in
     let columns = p.columns in
@@ -40,11 +40,11 @@ parted t s i b c p =
     (λ k. faces_of (sym (take-append-drop b t) k) (sym (take-append-drop i s) k))
     ∙ join (take b t) (drop b t) (take i s) (drop i s) (whole t s i b c p)
 
-pub take_front : (t : List ℕ) (s : List CellSize) (i b c : ℕ) → Placed t s i b c → take c (faces_of t s) ≡ faces_of (take b t) (take i s)
-take_front t s i b c p = ap (take c) (parted t s i b c p) ∙ take_at _ (faces_of (drop b t) (drop i s)) c (front_columns t s i b c p)
+pub take_prefix : (t : List ℕ) (s : List CellSize) (i b c : ℕ) → Placed t s i b c → take c (faces_of t s) ≡ faces_of (take b t) (take i s)
+take_prefix t s i b c p = ap (take c) (parted t s i b c p) ∙ take_at _ (faces_of (drop b t) (drop i s)) c (prefix_columns t s i b c p)
 
-pub drop_front : (t : List ℕ) (s : List CellSize) (i b c : ℕ) → Placed t s i b c → drop c (faces_of t s) ≡ faces_of (drop b t) (drop i s)
-drop_front t s i b c p = ap (drop c) (parted t s i b c p) ∙ drop_at (faces_of (take b t) (take i s)) _ c (front_columns t s i b c p)
+pub drop_prefix : (t : List ℕ) (s : List CellSize) (i b c : ℕ) → Placed t s i b c → drop c (faces_of t s) ≡ faces_of (drop b t) (drop i s)
+drop_prefix t s i b c p = ap (drop c) (parted t s i b c p) ∙ drop_at (faces_of (take b t) (take i s)) _ c (prefix_columns t s i b c p)
 
 pub cut_parts : (t : List ℕ) (s : List CellSize) (i b c : ℕ) → Placed t s i b c → is_cut t s ≡ true → (is_cut (take b t) (take i s) ≡ true) × (is_cut (drop b t) (drop i s) ≡ true)
 cut_parts t s i b c p h =
@@ -52,25 +52,25 @@ cut_parts t s i b c p h =
     (λ k. is_cut (sym (take-append-drop b t) k) (sym (take-append-drop i s) k))
     ∙ cut_join (take b t) (drop b t) (take i s) (drop i s) (whole t s i b c p)) ∙ h)
 
--- at a position nothing is halved
-pub opened_at_place : (t : List ℕ) (s : List CellSize) (i b c : ℕ) → Placed t s i b c → faces_of t s ≡ opened c (faces_of t s)
-opened_at_place t s i b c p =
-    let prefix = take_front t s i b c p in
-    let after = drop_front t s i b c p in
+-- at a position no cell is split
+pub opened_at_position : (t : List ℕ) (s : List CellSize) (i b c : ℕ) → Placed t s i b c → faces_of t s ≡ opened c (faces_of t s)
+opened_at_position t s i b c p =
+    let prefix = take_prefix t s i b c p in
+    let after = drop_prefix t s i b c p in
     sym (opened_whole c (faces_of t s)
     (ap closed_end prefix ∙ closed_end-faces (take b t) (take i s) ∙ sym prefix)
     (ap closed_start after ∙ closed_start-faces (drop b t) (drop i s) ∙ sym after))
 
-pub closed_at_place : (t : List ℕ) (s : List CellSize) (i b c : ℕ) → Placed t s i b c → faces_of (take b t) (take i s) ≡ closed_end (take c (faces_of t s))
-closed_at_place t s i b c p = sym (ap closed_end (take_front t s i b c p) ∙ closed_end-faces (take b t) (take i s))
+pub closed_at_position : (t : List ℕ) (s : List CellSize) (i b c : ℕ) → Placed t s i b c → faces_of (take b t) (take i s) ≡ closed_end (take c (faces_of t s))
+closed_at_position t s i b c p = sym (ap closed_end (take_prefix t s i b c p) ∙ closed_end-faces (take b t) (take i s))
 
 -- ---- cells replaced between two positions
 
 pub replaced : (t u : List ℕ) (s v : List CellSize) (i b c j d e : ℕ) → Placed t s i b c → Placed t s j d e → bytes_of v ≡ length u
     → faces_of (take b t ++ (u ++ drop d t)) (take i s ++ (v ++ drop j s)) ≡ take c (faces_of t s) ++ (faces_of u v ++ drop e (faces_of t s))
 replaced t u s v i b c j d e p q h =
-    let prefix = sym (take_front t s i b c p) in
-    let after = sym (drop_front t s j d e q) in
+    let prefix = sym (take_prefix t s i b c p) in
+    let after = sym (drop_prefix t s j d e q) in
     join (take b t) (u ++ drop d t) (take i s) (v ++ drop j s) (whole t s i b c p)
     ∙ ap (λ fs. faces_of (take b t) (take i s) ++ fs) (join u (drop d t) v (drop j s) h)
     ∙ (λ k. prefix k ++ (faces_of u v ++ after k))
@@ -104,21 +104,21 @@ at_wide t s i b c d p l w =
     ∙ ap (λ sizes. faces_of (take b t) (take i s) ++ faces_of (drop b t) sizes) (drop_more s i d l)
     ∙ ap (λ wide. faces_of (take b t) (take i s) ++ (cell_faces wide (take size.len (drop b t)) ++ faces_of (drop size.len (drop b t)) (drop (i + 1) s))) w
 
-pub halved_at : (t : List ℕ) (s : List CellSize) (i b c : ℕ) (d : CellSize) → Placed t s i b c → i < length s → (get_or s i d).is_wide ≡ true
+pub split_cell_at : (t : List ℕ) (s : List CellSize) (i b c : ℕ) (d : CellSize) → Placed t s i b c → i < length s → (get_or s i d).is_wide ≡ true
     → take c (faces_of t s) ++ (Own space ∷ Own space ∷ drop (c + 2) (faces_of t s)) ≡ opened (c + 1) (faces_of t s)
-halved_at t s i b c d p l w =
+split_cell_at t s i b c d p l w =
     let size = get_or s i d in
     let fs = faces_of t s in
     let prefix = faces_of (take b t) (take i s) in
     let text = take size.len (drop b t) in
     let after = faces_of (drop size.len (drop b t)) (drop (i + 1) s) in
-    let n = front_columns t s i b c p in
+    let n = prefix_columns t s i b c p in
     let is = at_wide t s i b c d p l w in
     let two : prefix ++ (Left text ∷ Right ∷ after) ≡ (prefix ++ Left text ∷ Right ∷ []) ++ after = sym (append_assoc prefix (Left text ∷ Right ∷ []) after) in
     let m = length-append prefix (Left text ∷ Right ∷ []) in
     let last : drop (c + 2) fs ≡ after = ap (drop (c + 2)) (is ∙ two) ∙ drop_at (prefix ++ Left text ∷ Right ∷ []) after (c + 2) (omega (arith, m, n)) in
-    let first : take c fs ≡ prefix = take_front t s i b c p in
-    (λ k. first k ++ (Own space ∷ Own space ∷ last k)) ∙ sym (halved prefix after text c n) ∙ ap (opened (c + 1)) (sym is)
+    let first : take c fs ≡ prefix = take_prefix t s i b c p in
+    (λ k. first k ++ (Own space ∷ Own space ∷ last k)) ∙ sym (was_split prefix after text c n) ∙ ap (opened (c + 1)) (sym is)
 
 pub closed_in_wide : (t : List ℕ) (s : List CellSize) (i b c : ℕ) (d : CellSize) → Placed t s i b c → i < length s → (get_or s i d).is_wide ≡ true
     → faces_of (take b t ++ 32 ∷ []) (take i s) ≡ closed_end (take (c + 1) (faces_of t s))
@@ -129,7 +129,7 @@ closed_in_wide t s i b c d p l w =
     let after = faces_of (drop size.len (drop b t)) (drop (i + 1) s) in
     let fit = whole t s i b c p in
     faces_more (take b t) (32 ∷ []) (take i s) (omega (arith, fit))
-    ∙ sym (halved_end prefix after text c (front_columns t s i b c p))
+    ∙ sym (split_end prefix after text c (prefix_columns t s i b c p))
     ∙ ap (λ fs. closed_end (take (c + 1) fs)) (sym (at_wide t s i b c d p l w))
 
 pub cut_in_wide : (t : List ℕ) (s : List CellSize) (i b c : ℕ) → Placed t s i b c → is_cut t s ≡ true → is_cut (take b t ++ 32 ∷ []) (take i s) ≡ true
@@ -157,8 +157,8 @@ pub record IsAfter (t : List ℕ) (s : List CellSize) (m at : ℕ) : Type 0 wher
   pub within : m ≤ length t
   pub column : m + columns_of s ≡ bytes_of s + at
 
-pub after_front : (t : List ℕ) (s : List CellSize) (m at : ℕ) → IsAfter t s m at → length (faces_of (take m t) s) ≡ at
-after_front t s m at p =
+pub after_prefix : (t : List ℕ) (s : List CellSize) (m at : ℕ) → IsAfter t s m at → length (faces_of (take m t) s) ≡ at
+after_prefix t s m at p =
     let sized = p.sized in
     let column = p.column in
     let n = length-take-le m t p.within in
@@ -172,7 +172,7 @@ after_parted t s m at p =
     ap (λ text. faces_of text s) (sym (take-append-drop m t)) ∙ faces_more (take m t) (drop m t) s (omega (arith, n, sized))
 
 pub after_taken : (t : List ℕ) (s : List CellSize) (m at : ℕ) → IsAfter t s m at → take at (faces_of t s) ≡ faces_of (take m t) s
-after_taken t s m at p = ap (take at) (after_parted t s m at p) ∙ take_at (faces_of (take m t) s) (plain_faces (drop m t)) at (after_front t s m at p)
+after_taken t s m at p = ap (take at) (after_parted t s m at p) ∙ take_at (faces_of (take m t) s) (plain_faces (drop m t)) at (after_prefix t s m at p)
 
 pub after_cut : (t : List ℕ) (s : List CellSize) (m at : ℕ) → IsAfter t s m at → faces_of (take m t) s ≡ closed_end (take at (faces_of t s))
 after_cut t s m at p = sym (ap closed_end (after_taken t s m at p) ∙ closed_end-faces (take m t) s)
@@ -192,7 +192,7 @@ after_set t u s m at p =
     let fs = faces_of t s in
     let prefix = faces_of (take m t) s in
     let rest = plain_faces (drop (m + length u) t) in
-    let k = after_front t s m at p in
+    let k = after_prefix t s m at p in
     let count : length (plain_faces u) ≡ length u = length-map u (λ byte. Own (byte ∷ [])) in
     let dropped : drop (at + length (plain_faces u)) fs ≡ rest =
     ap (λ x. drop (at + x) fs) count
@@ -227,13 +227,13 @@ first_at true prefix after text at n = get_or_at prefix (Left text) (Right ∷ a
 first_at false prefix after text at n = get_or_at prefix (Own text) after Right at n
 
 -- a cell at its first column
-pub face_at_place : (t : List ℕ) (s : List CellSize) (i b c : ℕ) (d : CellSize) → Placed t s i b c → i < length s
+pub face_at_position : (t : List ℕ) (s : List CellSize) (i b c : ℕ) (d : CellSize) → Placed t s i b c → i < length s
     → get_or (faces_of t s) c Right ≡ first_face (get_or s i d).is_wide (take (get_or s i d).len (drop b t))
-face_at_place t s i b c d p l =
+face_at_position t s i b c d p l =
     let size = get_or s i d in
     let prefix = faces_of (take b t) (take i s) in
     ap (λ fs. get_or fs c Right) (parted t s i b c p ∙ ap (λ sizes. prefix ++ faces_of (drop b t) sizes) (drop_more s i d l))
-    ∙ first_at size.is_wide prefix (faces_of (drop size.len (drop b t)) (drop (i + 1) s)) (take size.len (drop b t)) c (front_columns t s i b c p)
+    ∙ first_at size.is_wide prefix (faces_of (drop size.len (drop b t)) (drop (i + 1) s)) (take size.len (drop b t)) c (prefix_columns t s i b c p)
 
 -- a wide one at its second column
 pub face_in_wide : (t : List ℕ) (s : List CellSize) (i b c : ℕ) (d : CellSize) → Placed t s i b c → i < length s → (get_or s i d).is_wide ≡ true → get_or (faces_of t s) (c + 1) Right ≡ Right
@@ -242,7 +242,7 @@ face_in_wide t s i b c d p l w =
     let prefix = faces_of (take b t) (take i s) in
     let text = take size.len (drop b t) in
     let after = faces_of (drop size.len (drop b t)) (drop (i + 1) s) in
-    let n = front_columns t s i b c p in
+    let n = prefix_columns t s i b c p in
     ap (λ fs. get_or fs (c + 1) Right) (at_wide t s i b c d p l w ∙ sym (append_assoc prefix (Left text ∷ []) (Right ∷ after)))
     ∙ get_or_at (prefix ++ Left text ∷ []) Right after Right (c + 1) (omega (arith, n, length_push prefix (Left text)))
 
@@ -268,7 +268,7 @@ pub face_after : (t : List ℕ) (s : List CellSize) (m at n : ℕ) → IsAfter t
 face_after t s m at n p l one =
     let first = drop_more t m 0 l in
     ap (λ fs. get_or fs at Right) (after_parted t s m at p ∙ ap (λ bytes. faces_of (take m t) s ++ plain_faces bytes) first)
-    ∙ get_or_at (faces_of (take m t) s) (Own (get_or t m 0 ∷ [])) (plain_faces (drop (m + 1) t)) Right at (after_front t s m at p)
+    ∙ get_or_at (faces_of (take m t) s) (Own (get_or t m 0 ∷ [])) (plain_faces (drop (m + 1) t)) Right at (after_prefix t s m at p)
     ∙ ap Own (sym (first_byte (drop m t) (get_or t m 0) (drop (m + 1) t) n first one))
 
 pub plain_utf8 : (t : List ℕ) (s : List CellSize) (m at n : ℕ) → IsAfter t s m at → m < length t → n ≡ 1 → is_cut t s ≡ true → IsUtf8 (take n (drop m t))

@@ -10,7 +10,7 @@ use Rattle.std.proofs.lemmas.Str.{is_utf8-from_IsUtf8}
 use Rattle.std.proofs.lemmas.List.{take-append-drop, drop_all, length-drop, length-take-le}
 use Rattle.text_clusters.specs.Independent.{begins_independent, is_independent}
 use Rattle.text_clusters.specs.Plain.{is_printable}
-use Rattle.text_clusters.proofs.ApartLemmas.{cut_before}
+use Rattle.text_clusters.proofs.IndependentLemmas.{cut_before}
 use Rattle.text_clusters.proofs.TextLemmas.{first_alone, joined_clusters}
 use Rattle.cell_base.specs.Attributes.{Attributes, plain}
 use Rattle.cell_base.specs.CellContent.{CellContent, cell_of, shows_as_space}
@@ -46,10 +46,10 @@ leads_on f end a row middle last at between after text left rest p q =
 -- ---- one size more
 
 -- the start of a text with a prefix of its own
-front_of : (n : ℕ) (prefix more : List ℕ) → n ≤ length prefix → take n (prefix ++ more) ≡ take n prefix
-front_of zero prefix more h = refl
-front_of (suc n) [] more h = absurd (omega (arith, h))
-front_of (suc n) (b ∷ prefix) more h = ap (λ (bs : List ℕ). b ∷ bs) (front_of n prefix more (omega (arith, h)))
+prefix_of : (n : ℕ) (prefix more : List ℕ) → n ≤ length prefix → take n (prefix ++ more) ≡ take n prefix
+prefix_of zero prefix more h = refl
+prefix_of (suc n) [] more h = absurd (omega (arith, h))
+prefix_of (suc n) (b ∷ prefix) more h = ap (λ (bs : List ℕ). b ∷ bs) (prefix_of n prefix more (omega (arith, h)))
 
 after_of : (n : ℕ) (prefix more : List ℕ) → n ≤ length prefix → drop n (prefix ++ more) ≡ drop n prefix ++ more
 after_of zero prefix more h = refl
@@ -68,7 +68,7 @@ cells-more : (prefix more : List ℕ) (sizes : List CellSize) (size : CellSize) 
 cells-more [] more [] size a e l = ap (λ (t : List ℕ). record { text = t; width = width_of size.is_wide; attributes = a } ∷ []) (ap (λ n. take n more) l ∙ take_all more)
 cells-more (b ∷ prefix) more [] size a e l = absurd (omega (arith, e))
 cells-more prefix more (first ∷ sizes) size a e l =
-    (λ i. record { text = front_of first.len prefix more (omega (arith, e)) i; width = width_of first.is_wide; attributes = a }
+    (λ i. record { text = prefix_of first.len prefix more (omega (arith, e)) i; width = width_of first.is_wide; attributes = a }
     ∷ (ap (λ t. cells_of t (sizes ++ size ∷ []) a) (after_of first.len prefix more (omega (arith, e))) ∙ cells-more (drop first.len prefix) more sizes size a (following_bytes first sizes prefix e) l) i)
 
 -- one cell
@@ -123,7 +123,7 @@ module _ (f : List ℕ → ℕ) (text : List ℕ) (n width : ℕ) (single : Begi
     -- it is set where it fits
     single_leads : (row : Row) (at end : ℕ) → at + width ≤ end → end ≤ length row → begins_independent (drop n text) ≡ true
         → Leads f end a row at text (overlaid row at (cell_of (take n text) width a ∷ [])) (at + width) (drop n text)
-    single_leads row at end fits within apart =
+    single_leads row at end fits within independent =
         let cluster = take n text in
         let rest = drop n text in
         let cell = cell_of cluster width a in
@@ -132,7 +132,7 @@ module _ (f : List ℕ → ℕ) (text : List ℕ) (n width : ℕ) (single : Begi
         let made : cell ≡ cell_of cluster (f cluster) a = ap (λ k. cell_of cluster k a) columns ∙ single_cell cluster (f cluster) a in
         let kept : shows_as_space cluster ≡ false = first_kept text single.character n single.first in
         let count = single_count cluster width a kept single.some single.most in
-        let cut = cut_before text cluster rest single.character n u single.first refl refl apart in
+        let cut = cut_before text cluster rest single.character n u single.first refl refl independent in
         subst (λ k. Leads f end a row at text (overlaid row at (cell ∷ [])) (at + k) rest) count
         (leads_first f a row (overlaid row at (cell ∷ [])) at end text cluster rest cell (omega arith) within (omega (arith, count))
         cut (first_alone text cluster _ u cut) made (set_within row at cell (omega (arith, count)))
@@ -154,7 +154,7 @@ walk_none f room text u = record {
 -- one character more
 pub walk_more : (f : List ℕ → ℕ) (room : ℕ) (text : List ℕ) (sizes : List CellSize) (count : ℕ) (left : List ℕ) (n width : ℕ) (size : CellSize) → IsWalked f room text sizes count left → BeginsSingle f left n width → IsUtf8 left
     → size.len ≡ n → size.is_wide ≡ (width == 2) → begins_independent (drop n left) ≡ true → count + width ≤ room → IsWalked f room text (sizes ++ size ∷ []) (count + width) (drop n left)
-walk_more f room text sizes count left n width size w single u len wide apart fits =
+walk_more f room text sizes count left n width size w single u len wide independent fits =
     let is : IsSizeOf n width size = record { len = len; wide = wide } in
     let bytes = w.bytes in
     let columns = w.columns in
@@ -180,7 +180,7 @@ walk_more f room text sizes count left n width size w single u len wide apart fi
           subst (λ (r : Row). Leads f (at + room) a row at text r (at + (count + width)) (drop n left)) (sym all)
           (subst (λ k. Leads f (at + room) a row at text (overlaid middle (at + count) (cell_of (take n left) width a ∷ [])) k (drop n left)) on
           (leads_on f (at + room) a row middle (overlaid middle (at + count) (cell_of (take n left) width a ∷ [])) at (at + count) (at + count + width) text left (drop n left) (w.leads a row at h)
-          (single_leads f left n width single u size is a middle (at + count) (at + room) (omega (arith, fits)) (omega (arith, wide_as, h)) apart)));
+          (single_leads f left n width single u size is a middle (at + count) (at + room) (omega (arith, fits)) (omega (arith, wide_as, h)) independent)));
     }
   where
     width_kept : (cell_of (take n left) width plain).width ≡ width

@@ -1,4 +1,4 @@
--- What the columns of a row show that were written.
+-- What the written columns of a row show.
 use Rattle.std.specs.Prelude.{◌≡◌, length}
 use Rattle.cell_base.specs.Row.{Row}
 use Rattle.cell_base.specs.WholeRow.{IsWhole}

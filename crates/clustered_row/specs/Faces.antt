@@ -3,7 +3,7 @@ use Rattle.std.specs.Prelude.{ℕ, ◌+◌, ◌-◌, Bool, true, false, List, []
 use Rattle.cell_base.specs.Attributes.{Attributes}
 use Rattle.cell_base.specs.Row.{Column, Narrow, LeftHalf, RightHalf, Row, space}
 
--- A text of its own, or the left or the right half of a wide text, which stands at the left half.
+-- A text of its own, or the left or the right half of a wide text, which the left half holds.
 pub data Face : Type 0 where
   Own : List ℕ → Face
   Left : List ℕ → Face
@@ -15,7 +15,7 @@ column (Own text) attributes = Narrow text attributes
 column (Left text) attributes = LeftHalf text attributes
 column Right attributes = RightHalf attributes
 
--- the row of such columns
+-- the row of columns with these faces
 abbrev pub row_of : List Face → List Attributes → Row
 row_of [] attributes = []
 row_of (face ∷ faces) [] = []
@@ -46,7 +46,7 @@ right_alone Right = Own space
 right_alone (Own text) = Own text
 right_alone (Left text) = Left text
 
--- faces that were cut off from what followed them, and from what stood before them
+-- faces that were cut off from the faces after them, and from the faces before them
 abbrev pub closed_end : List Face → List Face
 closed_end [] = []
 closed_end (face ∷ []) = left_alone face ∷ []
@@ -64,7 +64,7 @@ opened at faces = closed_end (take at faces) ++ closed_start (drop at faces)
 abbrev pub padded : ℕ → List Face → List Face
 padded columns faces = faces ++ replicate (columns - length faces) (Own space)
 
--- the faces with others from a column on; halves left alone on either side become spaces
+-- the faces with `remaining` set from a column on; halves left alone on either side become spaces
 abbrev pub set_faces : List Face → ℕ → List Face → List Face
 set_faces faces at remaining =
     closed_end (take at faces) ++ remaining ++ closed_start (drop (at + length remaining) faces)

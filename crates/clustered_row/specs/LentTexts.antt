@@ -1,4 +1,4 @@
--- Cells that are lent.
+-- Cells that are borrowed.
 use Rattle.std.specs.Prelude.{◌≡◌, ℕ, List, Option, MatchOption, slice_index_or}
 use Rattle.clustered_row.specs.declared.lent_text.LentText.{LentText}
 use Rattle.clustered_row.specs.Faces.{Face, Right, first_face}

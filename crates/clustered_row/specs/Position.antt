@@ -4,7 +4,7 @@ use Rattle.clustered_row.specs.declared.cell_size.CellSize.{CellSize}
 use Rattle.clustered_row.specs.declared.position.Position.{Position}
 use Rattle.clustered_row.specs.Sizes.{bytes_of, columns_of}
 
--- after so many cells, which have so many bytes and columns
+-- after `index` cells, which have `bytes` bytes and `columns` columns
 pub record IsPosition (sizes : List CellSize) (position : Position) : Type 0 where
   pub within : position.index ≤ length sizes
   pub bytes : position.bytes ≡ bytes_of (take position.index sizes)
@@ -16,9 +16,9 @@ pub record IsSplit (sizes : List CellSize) (position : Position) (at : ℕ) (def
   pub wide : (slice_index_or sizes position.index default).is_wide ≡ true
   pub column : at ≡ position.columns + 1
 
--- each position after at most so many cells stays one
-abbrev pub KeepsPlaces : ℕ → List CellSize → List CellSize → Type 0
-KeepsPlaces count sizes remaining = (position : Position) → position.index ≤ count → IsPosition sizes position
+-- each position after at most `count` cells stays one
+abbrev pub KeepsPositions : ℕ → List CellSize → List CellSize → Type 0
+KeepsPositions count sizes remaining = (position : Position) → position.index ≤ count → IsPosition sizes position
     → IsPosition remaining position
 
 -- after the cell at a position, which is a plain one, is a position
@@ -26,7 +26,7 @@ abbrev pub HasPlainCell : List CellSize → Position → Type 0
 HasPlainCell sizes position = (next : Position) → next.index ≡ position.index + 1 → next.bytes ≡ position.bytes + 1
     → next.columns ≡ position.columns + 1 → IsPosition sizes next
 
--- before a cell of a text: after so many cells whose sizes are kept, or among the plain ones after all of these
+-- before a cell of a text: after `index` cells whose sizes are kept, or among the plain ones after all of these
 pub record IsBefore (text : List ℕ) (sizes : List CellSize) (position : Position) : Type 0 where
   pub index : position.index ≤ length sizes
   pub sized : position.index < length sizes → position.bytes ≡ bytes_of (take position.index sizes)

@@ -5,7 +5,7 @@ use Rattle.clustered_row.specs.declared.run.Run.{Run}
 use Rattle.clustered_row.specs.declared.run.Position.{Position}
 use Rattle.clustered_row.specs.Runs.{spread, AreMaximal}
 
--- a run of so many columns with the attributes of another
+-- a run of `count` columns with the attributes of another
 abbrev pub counted : Run → ℕ → Run
 counted run count = record { count = count; attributes = run.attributes }
 
@@ -17,7 +17,7 @@ IsAt runs at run = run ≡ slice_index_or runs at run
 abbrev pub IsLast : List Run → Run → Type 0
 IsLast runs last = (0 < length runs) × IsAt runs (length runs - 1) last
 
--- so many columns more with these attributes are counted to the last run, as many as it can count
+-- `room` is how many more columns with these attributes the last run can count
 pub record IsRoom (runs : List Run) (attributes : Attributes) (room : ℕ) : Type 0 where
   pub none : length runs ≡ 0 → room ≡ 0
   pub fits : (last : Run) → IsLast runs last → last.count + room ≤ 4294967295
@@ -34,13 +34,13 @@ pub record IsPosition (runs : List Run) (position : Position) : Type 0 where
   pub inside : (run : Run) → position.index < length runs → IsAt runs position.index run → position.offset < run.count
   pub after : length runs ≤ position.index → position.offset ≡ 0
 
--- the first runs hold the columns before `a`, and those from a position on the columns from `b` on, all of them at most
--- the columns of before
+-- the first `kept` runs hold the columns before `a`, and the runs from `position` on the columns from `b` on; the runs
+-- from `position.index` on have at most as many columns as the old runs
 pub record IsParted (a b : ℕ) (old new : List Run) (kept : ℕ) (position : Position) : Type 0 where
   pub prefix : spread (take kept new) ≡ take a (spread old)
   pub after : drop position.offset (spread (drop position.index new)) ≡ drop b (spread old)
   pub order : kept ≤ position.index
   pub at : IsPosition new position
   pub fewer : length (spread (drop position.index new)) ≤ length (spread old)
-  pub front_maximal : AreMaximal (take kept new)
+  pub prefix_maximal : AreMaximal (take kept new)
   pub after_maximal : AreMaximal (drop position.index new)

@@ -32,16 +32,16 @@ ends_plain [] = false
 ends_plain (size ∷ []) = is_plain size
 ends_plain (size ∷ next ∷ sizes) = ends_plain (next ∷ sizes)
 
--- the faces of a text: those of the cells with these sizes, and then one for each byte
+-- the faces of a text: the faces of cells with these sizes, and then one for each byte
 abbrev pub faces_of : List ℕ → List CellSize → List Face
 faces_of text [] = plain_faces text
 faces_of text (size ∷ sizes) = cell_faces size.is_wide (take size.len text) ++ faces_of (drop size.len text) sizes
 
--- a cell's text is UTF-8 that stands in a cell as it is; where it has the size of a plain cell it is printable ASCII
+-- a cell's text is UTF-8 that a cell holds unchanged; where it has the size of a plain cell it is printable ASCII
 abbrev pub is_text : CellSize → List ℕ → Bool
 is_text size text = if is_plain size then list_all is_printable text else is_utf8 text && not (shows_as_space text)
 
--- the text can be cut so: each cell's part is such a text, and all that is after them is printable ASCII
+-- the text can be cut so: each cell's part is a text of its size (`is_text`), and the rest is printable ASCII
 abbrev pub is_cut : List ℕ → List CellSize → Bool
 is_cut text [] = list_all is_printable text
 is_cut text (size ∷ sizes) = is_text size (take size.len text) && is_cut (drop size.len text) sizes

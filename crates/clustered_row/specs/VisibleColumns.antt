@@ -1,4 +1,4 @@
--- What is asked of a row's columns.
+-- Queries on a row's columns.
 use Rattle.std.specs.Prelude.{ℕ, Bool, true, false, [], ◌∷◌, drop}
 use Rattle.cell_base.specs.Attributes.{Attributes}
 use Rattle.cell_base.specs.Row.{Column, Narrow, LeftHalf, RightHalf, Row}
@@ -14,7 +14,7 @@ starts_split (RightHalf attributes ∷ row) = true
 abbrev pub is_split : ℕ → Row → Bool
 is_split at row = starts_split (drop at row)
 
--- what a column has beside its text
+-- the attributes of a column
 abbrev pub column_attributes : Column → Attributes
 column_attributes (Narrow text attributes) = attributes
 column_attributes (LeftHalf text attributes) = attributes

@@ -1,10 +1,10 @@
--- Attributes of columns that are left to be lent.
+-- Attributes of columns that an iteration has left.
 use Rattle.std.specs.Prelude.{ℕ, List, drop}
 use Rattle.cell_base.specs.Attributes.{Attributes}
 use Rattle.clustered_row.specs.declared.runs_left.RunsLeft.{RunsLeft}
 use Rattle.clustered_row.specs.Runs.{spread, first_left}
 
--- those of the runs that are left, after the columns of the first one that were lent already
+-- the attributes of the remaining runs, after the columns of the first one that were passed already
 abbrev pub attributes_left : RunsLeft → List Attributes
 attributes_left left = drop left.used (spread left.runs.now)
 

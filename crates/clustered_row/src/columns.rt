@@ -73,7 +73,7 @@ impl Columns {
         self.runs.cut(at);
     }
 
-    // Blanks follow, up to so many columns.
+    // Appends blanks up to `to` columns.
     pub(crate) fn pad(&mut self, to: usize, attrs: &CellAttributes) -> Result<(), AllocError>
         requires { length self.old ≤ to }
         ensures done { OnOk result (self.new ≡ self.old ++ replicate (to - length self.old) (blank attrs.now)) }
@@ -86,7 +86,7 @@ impl Columns {
         Ok(())
     }
 
-    // So many columns are there: others go from the end, or blanks follow.
+    // Sets the number of columns to `at`: drops columns at the end, or appends blanks.
     #[inline(always)]
     pub(crate) fn end_at(&mut self, at: usize, attrs: &CellAttributes) -> Result<(), AllocError>
         ensures done { OnOk result (EndsAt self.old self.new at attrs.now) }
@@ -155,8 +155,8 @@ impl Columns {
         self.texts.plain_from()
     }
 
-    // A column for each byte of printable ASCII from one on. Answers whether that was done, which it is where each cell
-    // there is such a character.
+    // Sets a column to each byte of printable ASCII, from `at` on. Returns whether that was done, which it is where the
+    // cells from `at` on are kept as such characters.
     #[inline(always)]
     fn overwrite(
         &mut self,
@@ -182,7 +182,7 @@ impl Columns {
         Ok(true)
     }
 
-    // Cells take their columns from one on, given by their text, their sizes and how many columns they take.
+    // Sets cells from column `at` on, given by their text, their sizes and how many columns they take.
     pub(crate) fn set(
         &mut self,
         at: usize,

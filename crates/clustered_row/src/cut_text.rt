@@ -8,7 +8,7 @@ ghost use Rattle.text_clusters.specs.Plain.{is_printable};
 ghost use Rattle.clustered_row.specs.declared.cell_size.CellSize.{CellSize};
 ghost use Rattle.clustered_row.specs.Faces.{plain_faces, padded, opened, closed_end, set_faces};
 ghost use Rattle.clustered_row.specs.LentTexts.{IsLentAt};
-ghost use Rattle.clustered_row.specs.Position.{IsPosition, IsSplit, KeepsPlaces, HasPlainCell};
+ghost use Rattle.clustered_row.specs.Position.{IsPosition, IsSplit, KeepsPositions, HasPlainCell};
 ghost use Rattle.clustered_row.specs.Sizes.{bytes_of, columns_of, faces_of, is_cut, ends_plain};
 
 use crate::cell_size::{CellSize, PLAIN};
@@ -55,7 +55,7 @@ impl CutText {
         self.sized_columns + (self.text.len() - self.sized_bytes)
     }
 
-    // The byte at which the plain cell of a column stands.
+    // The byte offset of the plain cell of a column.
     #[inline(always)]
     pub(crate) fn plain_byte(&self, column: usize) -> usize
         requires after { self.now.sized_columns ≤ column }
@@ -69,7 +69,7 @@ impl CutText {
 
     // The position after the cells whose sizes are kept.
     #[inline(always)]
-    pub(crate) fn place_after(&self) -> Position
+    pub(crate) fn position_after(&self) -> Position
         ensures position { IsPosition self.now.sizes.items result }
         ensures columns { result.columns ≡ self.now.sized_columns }
     {
@@ -131,7 +131,7 @@ impl CutText {
         })
     }
 
-    // The cell that takes a column begins there, looked for from another place on or from the end, whichever is nearer.
+    // The position at which the cell of column `at` begins, searched from `from` or from the end, whichever is nearer.
     pub(crate) fn position(&self, from: Position, at: usize) -> Position
         requires position { IsPosition self.now.sizes.items from }
         requires order { from.columns ≤ at }
@@ -142,7 +142,7 @@ impl CutText {
         ensures cell { (d : CellSize) → result.columns < at → IsSplit self.now.sizes.items result at d }
     {
         if self.sized_columns - at < at - from.columns {
-            return find_back(&self.sizes, self.place_after(), from, at);
+            return find_back(&self.sizes, self.position_after(), from, at);
         }
         find(&self.sizes, from, at)
     }
@@ -160,7 +160,7 @@ impl CutText {
         self.sized_columns = 0;
     }
 
-    // Makes room for so many more bytes and sizes.
+    // Makes room for `bytes` more bytes and `sizes` more sizes.
     #[inline(always)]
     pub(crate) fn reserve(&mut self, bytes: usize, sizes: usize) -> Result<(), AllocError>
         ensures faces { shown self.new ≡ shown self.old }
@@ -193,7 +193,7 @@ impl CutText {
         Ok(())
     }
 
-    // Spaces follow, up to so many columns.
+    // Appends spaces up to `to` columns.
     #[inline(always)]
     pub(crate) fn pad(&mut self, to: usize) -> Result<(), AllocError>
         ensures done { OnOk result (shown self.new ≡ padded to (shown self.old)) }
@@ -213,7 +213,7 @@ impl CutText {
         Ok(())
     }
 
-    // The bytes take the place of those of the plain cells from a column on.
+    // Replaces the bytes of the plain cells from column `at` on.
     #[inline(always)]
     pub(crate) fn set_plain(&mut self, at: usize, text: &str)
         requires text { list_all is_printable text.now ≡ true }
@@ -278,7 +278,7 @@ impl CutText {
         }
     }
 
-    // The sizes of so many plain cells more are kept.
+    // Keeps the sizes of `count` more plain cells.
     fn cover_more(&mut self, count: usize)
         requires within { self.old.sized_bytes + count ≤ length self.old.text.items }
         requires room { count ≤ sizes_left self.old }
@@ -295,7 +295,7 @@ impl CutText {
         self.sized_columns += count;
     }
 
-    // Cells that take so many columns follow, for which there is room.
+    // Appends cells that take `columns` columns; there is room for them.
     pub(crate) fn push_cells(&mut self, text: &str, sizes: &[CellSize], columns: usize)
         requires parts { is_cut text.now sizes.now ≡ true }
         requires bytes { bytes_of sizes.now ≡ length text.now }
@@ -312,7 +312,7 @@ impl CutText {
         self.sized_columns += columns;
     }
 
-    // The cells between two positions are replaced by others that take as many columns, for which there is room.
+    // Replaces the cells between two positions by cells of the same number of columns; there is room for them.
     fn replace(&mut self, from: Position, to: Position, text: &str, sizes: &[CellSize])
         requires from { IsPosition self.old.sizes.items from }
         requires to { IsPosition self.old.sizes.items to }
@@ -343,7 +343,7 @@ impl CutText {
         requires room_sizes { 2 ≤ sizes_left self.old }
         ensures faces { shown self.new ≡ opened (position.columns + 1) (shown self.old) }
         ensures columns { self.new.sized_columns ≡ self.old.sized_columns }
-        ensures before { KeepsPlaces position.index self.old.sizes.items self.new.sizes.items }
+        ensures before { KeepsPositions position.index self.old.sizes.items self.new.sizes.items }
         ensures position { HasPlainCell self.new.sizes.items position }
         ensures bytes_left { bytes_left self.old ≤ bytes_left self.new + 1 }
         ensures sizes_left { sizes_left self.old ≤ sizes_left self.new + 1 }
@@ -352,8 +352,8 @@ impl CutText {
         self.replace(position, next, "  ", &[PLAIN, PLAIN]);
     }
 
-    // A wide cell whose columns stand on both sides of a column becomes two spaces. Answers the place of that
-    // column, looked for from another one on, which stays a position.
+    // A wide cell whose second column is `at` becomes two spaces. Returns the position of `at`, searched from
+    // `from` on; `from` stays a position.
     #[inline(always)]
     fn open(&mut self, from: Position, at: usize) -> Position
         requires position { IsPosition self.old.sizes.items from }
@@ -410,7 +410,7 @@ impl CutText {
         self.sizes[len - 1].is_plain()
     }
 
-    // The last size goes, which is that of a plain cell.
+    // Drops the last size, which is a plain cell's.
     #[inline(always)]
     fn drop_plain(&mut self)
         requires { ends_plain self.old.sizes.items ≡ true }

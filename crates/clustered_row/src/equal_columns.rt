@@ -105,7 +105,7 @@ fn equal_runs(runs: &[Run], remaining: &[Run]) -> usize
     columns
 }
 
-// Whether a cell has at most so many bytes and columns.
+// Whether a cell has at most `bytes` bytes and `columns` columns.
 #[inline(always)]
 fn fits(size: CellSize, bytes: usize, columns: usize) -> bool
     ensures { IsTrue result → (size.len ≤ bytes) × (width_of size.is_wide ≤ columns) }
@@ -113,8 +113,8 @@ fn fits(size: CellSize, bytes: usize, columns: usize) -> bool
     size.len <= bytes && size.columns() <= columns
 }
 
-// The position after the first cells, of so many as many as have at most so many bytes and columns.
-fn place_within(sizes: &[CellSize], count: usize, bytes: usize, columns: usize) -> Position
+// The position after as many of the first `count` cells as have at most `bytes` bytes and `columns` columns.
+fn position_within(sizes: &[CellSize], count: usize, bytes: usize, columns: usize) -> Position
     requires { count ≤ length sizes.now }
     ensures position { IsPosition sizes.now result }
     ensures index { result.index ≤ count }
@@ -145,32 +145,32 @@ impl Runs {
 }
 
 impl CutText {
-    // The position after the first cells, of so many as many as have at most so many bytes and columns.
-    fn place_within(&self, count: usize, bytes: usize, columns: usize) -> Position
+    // The position after as many of the first `count` cells as have at most `bytes` bytes and `columns` columns.
+    fn position_within(&self, count: usize, bytes: usize, columns: usize) -> Position
         requires { count ≤ length self.now.sizes.items }
         ensures position { IsPosition self.now.sizes.items result }
         ensures index { result.index ≤ count }
         ensures bytes { result.bytes ≤ bytes }
         ensures columns { result.columns ≤ columns }
     {
-        let all = self.place_after();
+        let all = self.position_after();
         if all.index <= count && all.bytes <= bytes && all.columns <= columns {
             return all;
         }
-        place_within(&self.sizes, count, bytes, columns)
+        position_within(&self.sizes, count, bytes, columns)
     }
 
-    // The position after the cells at the start that are the same in both texts, in at most so many columns.
-    fn equal_place(&self, other: &CutText, most: usize) -> Position
+    // The position after the cells at the start that are the same in both texts, in at most `most` columns.
+    fn equal_position(&self, other: &CutText, most: usize) -> Position
         ensures position { IsBefore self.now.text.items self.now.sizes.items result }
-        ensures other_place { IsBefore other.now.text.items other.now.sizes.items result }
+        ensures other_position { IsBefore other.now.text.items other.now.sizes.items result }
         ensures text { take result.bytes self.now.text.items ≡ take result.bytes other.now.text.items }
         ensures sizes { take result.index self.now.sizes.items ≡ take result.index other.now.sizes.items }
         ensures most { result.columns ≤ most }
     {
         let bytes = equal_bytes(&self.text, &other.text);
         let count = equal_sizes(&self.sizes, &other.sizes);
-        let position = self.place_within(count, bytes, most);
+        let position = self.position_within(count, bytes, most);
         if position.index < self.sizes.len().max(other.sizes.len()) {
             return position;
         }
@@ -184,14 +184,14 @@ impl CutText {
 }
 
 impl Texts {
-    // How many columns at the start of both show the same texts, at most so many; no cell is cut after them.
+    // The number of columns at the start of both that show the same texts, at most `most`; no cell is cut after them.
     fn equal_columns(&self, other: &Texts, most: usize) -> usize
         ensures most { result ≤ most }
         ensures equal { take result (faces self.now) ≡ take result (faces other.now) }
         ensures whole { starts_right (drop result (faces self.now)) ≡ false }
         ensures other_whole { starts_right (drop result (faces other.now)) ≡ false }
     {
-        self.cut.equal_place(&other.cut, most).columns
+        self.cut.equal_position(&other.cut, most).columns
     }
 }
 
@@ -224,9 +224,9 @@ fn same_blanks(
 impl ClusteredRow {
     ghost use Rattle.clustered_row.specs.EqualColumns.{AreEqualAround};
 
-    /// Columns outside of which two rows are the same: those from the first of these on and before the second. No cell
-    /// is cut at either. Of rows that are kept alike there are none; rows that are kept otherwise may be the same in
-    /// some of them.
+    /// The range of columns outside of which two rows are the same: its first column, and the column after its last. No
+    /// cell is cut at either. For rows that are stored alike the range is empty; rows that are stored otherwise may be
+    /// the same in some of its columns.
     pub fn unequal_columns(&self, other: &ClusteredRow) -> (usize, usize)
         ensures { AreEqualAround result.0 result.1 self.now other.now }
     {

@@ -13,7 +13,7 @@ use crate::run::Run;
 use crate::runs::Runs;
 use crate::texts::Texts;
 
-// How many bytes at the end of both are the same, at most so many.
+// The length of the common suffix of both, at most `most`.
 fn equal_bytes_at_end(bytes: &[u8], remaining: &[u8], most: usize) -> usize
     requires within { most ≤ length bytes.now }
     requires other_within { most ≤ length remaining.now }
@@ -63,7 +63,7 @@ impl Runs {
 }
 
 impl CutText {
-    // How many cells at the end of both are the same plain ones, at most so many.
+    // The number of cells at the end of both that are the same plain ones, at most `most`.
     fn equal_plain_at_end(&self, other: &CutText, most: usize) -> usize
         ensures most { result ≤ most }
         ensures equal { drop (length (shown self.now) - result) (shown self.now)
@@ -78,7 +78,7 @@ impl CutText {
 }
 
 impl Texts {
-    // How many cells at the end of both are the same plain ones, at most so many.
+    // The number of cells at the end of both that are the same plain ones, at most `most`.
     fn equal_columns_at_end(&self, other: &Texts, most: usize) -> usize
         ensures most { result ≤ most }
         ensures equal { drop (length (faces self.now) - result) (faces self.now)
@@ -91,8 +91,8 @@ impl Texts {
 }
 
 impl Columns {
-    // How many columns at the end of both are the same, at most so many; no cell is cut before them. Only those of
-    // plain cells are told.
+    // The number of columns at the end of both that are the same, at most `most`; no cell is cut before them. The
+    // function compares only columns of plain cells.
     pub(crate) fn equal_columns_at_end(&self, other: &Columns, most: usize) -> usize
         ensures most { result ≤ most }
         ensures equal { drop (length self.now - result) self.now ≡ drop (length other.now - result) other.now }

@@ -8,7 +8,7 @@ ghost use Rattle.std.specs.Vec.{vec_len, vec_capacity};
 use std::alloc::AllocError;
 use std::mem;
 
-// The items are copied over those from `at` on.
+// Copies `with` over the items from `at` on.
 #[inline(always)]
 pub(crate) fn put<T: Copy>(items: &mut Vec<T>, at: usize, with: &[T])
     requires { at + length with.now ≤ vec_len items.old }
@@ -19,7 +19,7 @@ pub(crate) fn put<T: Copy>(items: &mut Vec<T>, at: usize, with: &[T])
     items[at..at + with.len()].copy_from_slice(with);
 }
 
-// The items follow, for which there is room.
+// Appends `with`, for which there is room.
 #[inline(always)]
 pub(crate) fn push_all<T: Copy>(items: &mut Vec<T>, with: &[T])
     requires { vec_len items.old + length with.now ≤ vec_capacity items.old }
@@ -30,7 +30,7 @@ pub(crate) fn push_all<T: Copy>(items: &mut Vec<T>, with: &[T])
     let _pushed = items.extend_from_slice(with);
 }
 
-// The bytes follow. One alone is stored, in place of a block copy.
+// Appends bytes. A single one is stored, in place of a block copy.
 #[inline(always)]
 pub(crate) fn push_bytes(items: &mut Vec<u8>, bytes: &[u8]) -> Result<(), AllocError>
     ensures items { items.new.items ≡ (if is_ok result then items.old.items ++ bytes.now else items.old.items) }
@@ -47,7 +47,7 @@ pub(crate) fn push_bytes(items: &mut Vec<u8>, bytes: &[u8]) -> Result<(), AllocE
     Ok(())
 }
 
-// What stands from `from` on stands from `to` on, further after, where there is room for it.
+// Moves the items from `from` on to `to`, which is further after, where there is room for them.
 fn move_up<T: Copy>(items: &mut Vec<T>, from: usize, to: usize, filler: T)
     requires order { from ≤ to }
     requires within { from ≤ vec_len items.old }
@@ -68,7 +68,7 @@ fn move_up<T: Copy>(items: &mut Vec<T>, from: usize, to: usize, filler: T)
     items.copy_within(from..len, to);
 }
 
-// What stands from `from` on stands from `to` on, which is before it.
+// Moves the items from `from` on to `to`, which is before it.
 fn move_down<T: Copy>(items: &mut Vec<T>, from: usize, to: usize)
     requires order { to ≤ from }
     requires within { from ≤ vec_len items.old }
@@ -86,7 +86,7 @@ fn move_down<T: Copy>(items: &mut Vec<T>, from: usize, to: usize)
     items.truncate(len - (from - to));
 }
 
-// What stands from `from` on stands from `to` on.
+// Moves the items from `from` on to `to`.
 #[inline(always)]
 fn move_rest<T: Copy>(items: &mut Vec<T>, from: usize, to: usize, filler: T)
     requires within { from ≤ vec_len items.old }
@@ -106,7 +106,7 @@ fn move_rest<T: Copy>(items: &mut Vec<T>, from: usize, to: usize, filler: T)
     move_down(items, from, to);
 }
 
-// The items from `from` on and before `to` are replaced by others, for which there is room: what follows them is
+// Replaces the items from `from` on and before `to` by `with`, for which there is room: the rest after them is
 // moved once.
 #[inline(always)]
 pub(crate) fn replace_items<T: Copy>(
@@ -127,7 +127,7 @@ pub(crate) fn replace_items<T: Copy>(
     put(items, from, with);
 }
 
-// The bytes from `from` on and before `to` are replaced by others, for which there is room: what follows them is
+// Replaces the bytes from `from` on and before `to` by `with`, for which there is room: the rest after them is
 // moved as one block.
 pub(crate) fn replace_text(text: &mut Vec<u8>, from: usize, to: usize, with: &str)
     requires utf8 { IsUtf8 text.old.items }

@@ -1,4 +1,4 @@
-//! Cells' texts that are lent.
+//! Borrowed texts of cells.
 ghost use Rattle.std.specs.Prelude.{◌≡◌, false};
 ghost use Rattle.cell_base.specs.CellContent.{shows_as_space};
 

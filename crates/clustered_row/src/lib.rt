@@ -12,15 +12,11 @@ mod lent_text;
 mod position;
 mod row;
 mod row_cells;
-#[cfg(test)]
-mod row_tests;
 mod row_texts;
 mod run;
 mod run_steps;
 mod runs;
 mod runs_left;
-#[cfg(test)]
-mod runs_tests;
 mod stored;
 mod text_cells;
 mod texts;

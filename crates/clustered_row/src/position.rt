@@ -6,7 +6,7 @@ ghost use Rattle.clustered_row.specs.Sizes.{bytes_of, columns_of, width_of};
 
 use crate::cell_size::CellSize;
 
-// So many cells stand before it, with so many bytes, in so many columns.
+// After `index` cells, which have `bytes` bytes and take `columns` columns.
 #[derive(Clone, Copy)]
 pub(crate) struct Position {
     pub(crate) index: usize,
@@ -22,7 +22,7 @@ pub(crate) const START: Position = Position {
 };
 
 impl Position {
-    // The position after the cell that stands there.
+    // The position after the cell at this one.
     #[inline(always)]
     pub(crate) fn after(self, size: CellSize) -> Position
         requires index { self.index + 1 < 2 ^ 64 }
@@ -39,7 +39,7 @@ impl Position {
         }
     }
 
-    // The position before the cell that stands before it.
+    // The position before the cell that precedes this one.
     #[inline(always)]
     pub(crate) fn before(self, size: CellSize) -> Position
         requires index { 1 ≤ self.index }
@@ -57,8 +57,8 @@ impl Position {
     }
 }
 
-// The cell that takes a column begins there, looked for from another place on; the place after all cells where none
-// does.
+// The position at which the cell of column `at` begins, searched from `from` on; the position after all cells where
+// none takes that column.
 pub(crate) fn find(sizes: &[CellSize], from: Position, at: usize) -> Position
     requires position { IsPosition sizes.now from }
     requires order { from.columns ≤ at }
@@ -89,7 +89,8 @@ pub(crate) fn find(sizes: &[CellSize], from: Position, at: usize) -> Position
     }
 }
 
-// The cell that takes a column begins there, looked for from the place after all cells; that place where none does.
+// The position at which the cell of column `at` begins, searched back from `end`, after all cells; `end` where no cell
+// takes that column.
 pub(crate) fn find_back(sizes: &[CellSize], end: Position, from: Position, at: usize) -> Position
     requires end { IsPosition sizes.now end }
     requires last { at ≤ end.columns }

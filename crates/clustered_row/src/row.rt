@@ -13,10 +13,10 @@ use cell_base::CellAttributes;
 use std::alloc::{AllocError, Global};
 use std::marker::Model;
 
-/// A row of columns, kept as one text, the lengths and widths of its cells, and runs of equal attributes. After the
-/// last column that was written stand blanks with the same attributes. Columns count from 0.
+/// A row of columns, kept as one text, the lengths and widths of its cells, and runs of equal attributes. The columns
+/// after the last written one are blanks that all have the same attributes. Columns count from 0.
 ///
-/// A call that is refused memory leaves the count of columns as it was; of what they show nothing is said.
+/// A call that is refused memory leaves the count of columns as it was; what they show then is unspecified.
 #[derive(Debug, Drop)]
 pub struct ClusteredRow {
     pub(crate) columns: Columns,
@@ -39,7 +39,7 @@ impl Model for ClusteredRow {
 }
 
 impl ClusteredRow {
-    /// So many plain blanks.
+    /// A row of `width` plain blanks.
     pub fn new(alloc: Global, width: usize) -> ClusteredRow
         ensures { result ≡ plain_row width }
     {
@@ -171,7 +171,7 @@ impl ClusteredRow {
         Ok(())
     }
 
-    // Plain blanks follow, up to so many columns.
+    // Appends plain blanks up to `width` columns.
     fn widen(&mut self, width: usize) -> Result<(), AllocError>
         requires { length self.old < width }
         ensures { OnOk result (self.new ≡ resized width self.old) }

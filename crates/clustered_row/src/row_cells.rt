@@ -14,7 +14,7 @@ use cell_base::Cell;
 use cell_base::laws::cells_are_lawful;
 use std::alloc::{AllocError, Global};
 
-// A visible cell follows the others, and after a wide one the blank with its attributes.
+// Appends a visible cell, and after a wide one a blank with its attributes.
 fn push_cell(
     alloc: Global,
     cells: &mut Vec<Cell>,
@@ -33,8 +33,8 @@ fn push_cell(
 }
 
 impl ClusteredRow {
-    /// The row of cells, read from the left: the one that is stored after a wide one isn't looked at, and a wide one
-    /// with none after it is a blank with its attributes.
+    /// The row of cells, read from the left: the cell stored after a wide one is ignored, and a wide cell with none
+    /// after it is a blank with its attributes.
     pub fn from_cells(alloc: Global, cells: &[Cell]) -> Result<ClusteredRow, AllocError>
         ensures { IfOk result (λ row. row ≡ row_of_cells cells.now) }
     {
@@ -46,7 +46,7 @@ impl ClusteredRow {
         Ok(row)
     }
 
-    // A cell takes its columns from one on, as far as they are there. Answers the column after them.
+    // Sets a cell's columns from `at` on, as far as they are there. Returns the column after them.
     fn put(&mut self, at: usize, cell: &Cell) -> Result<usize, AllocError>
         requires { at < length self.old }
         ensures len { length self.new ≡ length self.old }
@@ -64,8 +64,8 @@ impl ClusteredRow {
         Ok(at + columns)
     }
 
-    /// Does nothing; its contract is a law of rows: after the first column of a wide cell stands the second one, with
-    /// the same attributes, and none stands elsewhere.
+    /// Does nothing; its contract is a law of rows: after the first column of a wide cell comes its second one, with
+    /// the same attributes, and there is no other second column.
     #[inline(always)]
     pub fn is_whole(&self)
         ensures { IsWhole self.now }
@@ -73,7 +73,7 @@ impl ClusteredRow {
         let _stored = self.columns.len();
     }
 
-    /// The cells of the row, one for each column: after each wide one stands a blank with its attributes.
+    /// The cells of the row, one for each column: after each wide one comes a blank with its attributes.
     pub fn to_cells(&self, alloc: Global) -> Result<Vec<Cell>, AllocError>
         ensures cells { IfOk result (λ cells. cells.items ≡ lent_cells self.now) }
         ensures row { IfOk result (λ cells. row_of_cells cells.items ≡ self.now) }

@@ -7,7 +7,7 @@ ghost use Rattle.cell_base.specs.CellContent as cells;
 ghost use Rattle.cell_base.specs.Row.{blank, set_columns};
 ghost use Rattle.cell_edits.specs.CellList.{cell_columns};
 ghost use Rattle.cell_edits.specs.RowEdits.{overlaid};
-ghost use Rattle.cell_edits.specs.TextRuns.{place_after, plain_cells, text_on, text_left, Leads, Stops};
+ghost use Rattle.cell_edits.specs.TextRuns.{position_after, plain_cells, text_on, text_left, Leads, Stops};
 
 use crate::row::ClusteredRow;
 use crate::text_cells::size_of;
@@ -15,10 +15,10 @@ use cell_base::{Cell, CellAttributes, Widths};
 use std::alloc::AllocError;
 use text_clusters::split_first_cluster;
 
-// So many spaces are set at once.
+// The most spaces that are set at once.
 const SPACES: &str = "                                                                ";
 
-// Whether a space stands in a cell in place of this text.
+// Whether a cell holds a space in place of this text.
 #[inline(always)]
 fn shows_as_space(text: &str) -> bool
     ensures { result ≡ cells.shows_as_space text.now }
@@ -26,7 +26,7 @@ fn shows_as_space(text: &str) -> bool
     Cell::columns_for(text, 2) == 1
 }
 
-// So many spaces.
+// A text of `count` spaces.
 #[inline(always)]
 pub(crate) fn spaces(count: usize) -> &'static str
     requires { count ≤ 64 }
@@ -57,8 +57,8 @@ impl ClusteredRow {
         Ok(())
     }
 
-    /// The cell of a cluster of `width` columns, of which none count as one, takes its columns from one on. The empty
-    /// text, a single C0 control or DEL, and CR LF stand as a space of one column.
+    /// Sets the cell of a cluster of `width` columns, where 0 counts as 1, at column `at`. The empty text, a single C0
+    /// control or DEL, and CR LF become a space of one column.
     pub fn set_cell(
         &mut self,
         at: usize,
@@ -107,7 +107,7 @@ impl ClusteredRow {
         Ok(())
     }
 
-    // Spaces take the columns of a range, in pieces.
+    // Sets the columns of a range to spaces, a chunk at a time.
     fn set_spaces(
         &mut self,
         start: usize,
@@ -129,8 +129,8 @@ impl ClusteredRow {
         Ok(())
     }
 
-    /// The row becomes so many blanks with these attributes. The memory of what it showed stays. A refused one stays as
-    /// it was.
+    /// Makes the row `width` blanks with these attributes. It keeps the memory of what it showed. A row that is refused
+    /// memory stays as it was.
     pub fn clear_to(&mut self, width: usize, attrs: &CellAttributes) -> Result<(), AllocError>
         ensures done { OnOk result (self.new ≡ replicate width (blank attrs.now)) }
         ensures refused { OnErr result (self.new ≡ self.old) }
@@ -202,7 +202,7 @@ impl ClusteredRow {
         self.set_first_cluster(at, end, text, attrs, w)
     }
 
-    /// Sets each cluster of a text side by side from `start` on, as far as they fit before `end`; answers the column
+    /// Sets each cluster of a text side by side from `start` on, as far as they fit before `end`; returns the column
     /// after them and the text that is left.
     pub fn set_text<'a, W: Widths>(
         &mut self,
@@ -217,7 +217,7 @@ impl ClusteredRow {
         ensures len { length self.new ≡ length self.old }
         ensures row { OnOk result
             (self.new ≡ text_on (W.width_of w.now) end attrs.now self.old start text.now) }
-        ensures after { IfOk result (λ r. r.0 ≡ place_after (W.width_of w.now) end attrs.now start text.now) }
+        ensures after { IfOk result (λ r. r.0 ≡ position_after (W.width_of w.now) end attrs.now start text.now) }
         ensures left { IfOk result (λ r. r.1.now ≡ text_left (W.width_of w.now) end attrs.now start text.now) }
     {
         let mut at = start;

@@ -10,7 +10,7 @@ pub struct Run {
     pub attributes: CellAttributes,
 }
 
-/// Where a column is: after so many whole runs, and so many columns of the next one.
+/// The position of a column: after `index` whole runs, and `offset` columns of the next one.
 #[derive(Clone, Copy)]
 pub(crate) struct Position {
     pub(crate) index: usize,

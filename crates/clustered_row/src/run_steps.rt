@@ -19,7 +19,7 @@ fn has(run: &Run, attributes: &CellAttributes) -> bool
     run.attributes == *attributes
 }
 
-// The run counts so many columns.
+// Sets the column count of the run at `at`.
 fn set_count(runs: &mut Vec<Run>, at: usize, count: u32)
     requires { at < length runs.old.items }
     ensures items { (d : Run) → runs.new.items
@@ -30,7 +30,7 @@ fn set_count(runs: &mut Vec<Run>, at: usize, count: u32)
     run.count = count;
 }
 
-// The run counts so many columns more.
+// Adds `by` columns to the run at `at`.
 #[inline(always)]
 fn grow(runs: &mut Vec<Run>, at: usize, by: u32)
     requires within { at < length runs.old.items }
@@ -42,8 +42,8 @@ fn grow(runs: &mut Vec<Run>, at: usize, by: u32)
     run.count += by;
 }
 
-// The position so many columns after the first column of a run.
-pub(crate) fn place_from(runs: &[Run], index: usize, offset: usize) -> Position
+// The position `offset` columns after the first column of a run.
+pub(crate) fn position_from(runs: &[Run], index: usize, offset: usize) -> Position
     requires within { index ≤ length runs.now }
     requires column { length (spread (take index runs.now)) + offset ≤ length (spread runs.now) }
     ensures position { IsPosition runs.now result }
@@ -66,8 +66,8 @@ pub(crate) fn place_from(runs: &[Run], index: usize, offset: usize) -> Position
     }
 }
 
-// The place of a column: in the last run, which most are asked for, or looked for from the first on.
-fn place_of(runs: &[Run], columns: usize, column: usize) -> Position
+// The position of a column: in the last run, as in most calls, or searched from the first run on.
+fn position_of(runs: &[Run], columns: usize, column: usize) -> Position
     requires columns { columns ≡ length (spread runs.now) }
     requires within { column < columns }
     ensures position { IsPosition runs.now result }
@@ -81,7 +81,7 @@ fn place_of(runs: &[Run], columns: usize, column: usize) -> Position
             offset: column - start,
         };
     }
-    place_from(runs, 0, column)
+    position_from(runs, 0, column)
 }
 
 /// The attributes of a column.
@@ -90,7 +90,7 @@ pub(crate) fn at(runs: &[Run], columns: usize, column: usize) -> &CellAttributes
     requires within { column < columns }
     ensures { result.now ≡ slice_index_or (spread runs.now) column result.now }
 {
-    let position = place_of(runs, columns, column);
+    let position = position_of(runs, columns, column);
     &runs[position.index].attributes
 }
 
@@ -134,7 +134,7 @@ pub(crate) fn push(
     push_run(runs, room, count - room, attributes)
 }
 
-// The last run counts so many columns more.
+// Adds `by` columns to the last run.
 #[inline(always)]
 fn grow_last(runs: &mut Vec<Run>, by: u32)
     requires some { 0 < length runs.old.items }
@@ -148,7 +148,7 @@ fn grow_last(runs: &mut Vec<Run>, by: u32)
     grow(runs, last, by);
 }
 
-// Adds columns: to the last run as many as it can count more, and a run of the others, of which there are some.
+// Adds columns: `room` to the last run, as many as it can count more, and a run of `count` more, at least one.
 #[inline(never)]
 fn push_run(
     runs: &mut Vec<Run>,
@@ -175,7 +175,7 @@ fn push_run(
     Ok(())
 }
 
-// Drops columns of the last run, at most so many. Answers how many.
+// Drops at most `by` columns of the last run. Returns how many.
 fn shorten(runs: &mut Vec<Run>, by: usize) -> usize
     requires some { 0 < by }
     requires within { by ≤ length (spread runs.old.items) }
@@ -224,8 +224,8 @@ fn is_set(runs: &[Run], from: Position, to: Position, attributes: &CellAttribute
     to.index - from.index == 1 && has(&runs[from.index], attributes)
 }
 
-// Ends the columns before a place with a run of their own, where the place is within one. Answers how many runs they
-// are, and where the second position is then.
+// Ends the columns before `from` with a run of their own, where `from` is within a run. Returns the number of their
+// runs, and where the position `to` is then.
 fn end_at(
     runs: &mut Vec<Run>,
     from: Position,
@@ -254,7 +254,7 @@ fn end_at(
     Ok((from.index + 1, to))
 }
 
-// Makes two runs of one that holds both positions. Answers where the second position is then.
+// Makes two runs of one that holds both positions. Returns where the second position is then.
 fn split(runs: &mut Vec<Run>, from: Position, to: Position) -> Result<Position, AllocError>
     requires from { IsPosition runs.old.items from }
     requires to { IsPosition runs.old.items to }
@@ -305,7 +305,7 @@ fn begin_at(runs: &mut Vec<Run>, position: Position)
     set_count(runs, position.index, count - position.offset as u32);
 }
 
-// Counts the run before to a run that has its attributes. Answers how many runs are left before.
+// Joins the run before `kept` to `run`, where it has its attributes. Returns how many runs then remain before.
 fn join_before(runs: &[Run], kept: usize, run: &mut Run) -> usize
     requires within { kept ≤ length runs.now }
     requires some { 0 < run.old.count }
@@ -328,7 +328,7 @@ fn join_before(runs: &[Run], kept: usize, run: &mut Run) -> usize
     kept - 1
 }
 
-// Counts the run after to a run that has its attributes. Answers where the runs begin that are left.
+// Joins the run at `from` to `run`, where it has its attributes. Returns where the remaining runs begin.
 fn join_after(runs: &[Run], from: usize, run: &mut Run) -> usize
     requires within { from ≤ length runs.now }
     requires some { 0 < run.old.count }
@@ -353,7 +353,7 @@ fn join_after(runs: &[Run], from: usize, run: &mut Run) -> usize
     from + 1
 }
 
-// The run comes before those at `at`.
+// Inserts the run at `at`.
 fn put_in(runs: &mut Vec<Run>, at: usize, run: Run)
     requires within { at ≤ vec_len runs.old }
     requires room { vec_len runs.old < vec_capacity runs.old }
@@ -362,7 +362,7 @@ fn put_in(runs: &mut Vec<Run>, at: usize, run: Run)
     let _never = runs.insert(at, run);
 }
 
-// The run stands in the place of another.
+// Replaces the run at `at`.
 fn put(runs: &mut Vec<Run>, at: usize, run: Run)
     requires { at < vec_len runs.old }
     ensures { runs.new.items ≡ slice_set runs.old.items at run }
@@ -386,7 +386,7 @@ fn remove(runs: &mut Vec<Run>, from: usize, to: usize)
     runs.truncate(from + after);
 }
 
-// The run stands in the place of those from one on, before another.
+// Replaces the runs from `from` on and before `to`.
 fn replace(runs: &mut Vec<Run>, from: usize, to: usize, run: Run)
     requires order { from ≤ to }
     requires within { to ≤ length runs.old.items }
@@ -401,7 +401,7 @@ fn replace(runs: &mut Vec<Run>, from: usize, to: usize, run: Run)
     remove(runs, from + 1, to);
 }
 
-// The run comes between the first runs and a position, joined with what has its attributes on either side.
+// Puts the run between the first `kept` runs and `position`, joined with neighbours of the same attributes.
 fn put_between(runs: &mut Vec<Run>, kept: usize, position: Position, run: Run)
     requires order { kept ≤ position.index }
     requires position { IsPosition runs.old.items position }
@@ -441,8 +441,8 @@ pub(crate) fn set(
     ensures refused { OnErr result (runs.new.items ≡ runs.old.items) }
     ensures maximal { AreMaximal runs.new.items }
 {
-    let from = place_of(runs, columns, a);
-    let to = place_from(runs, from.index, from.offset + (b - a));
+    let from = position_of(runs, columns, a);
+    let to = position_from(runs, from.index, from.offset + (b - a));
     if is_set(runs, from, to, attributes) {
         return Ok(());
     }

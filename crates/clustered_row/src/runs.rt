@@ -73,7 +73,7 @@ impl Runs {
         self.push_some(count as u32, attributes)
     }
 
-    // Adds at most as many columns as a run can count.
+    // Adds `count` columns, which one run can count.
     #[inline(always)]
     fn push_some(&mut self, count: u32, attributes: &CellAttributes) -> Result<(), AllocError>
         requires { length self.old + count < 2 ^ 64 }
@@ -163,7 +163,7 @@ impl Runs {
         Ok(())
     }
 
-    // Adds so many of the columns of these runs, after those that are skipped.
+    // Adds `count` of the columns of these runs, after the first `skip` ones.
     fn push_columns(&mut self, runs: &[Run], skip: usize, count: usize) -> Result<(), AllocError>
         requires { length self.old + count < 2 ^ 64 }
         ensures { OnOk result (self.new ≡ self.old ++ take count (drop skip (spread runs.now))) }

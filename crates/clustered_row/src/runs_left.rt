@@ -1,4 +1,4 @@
-//! Attributes of columns that are left to be lent.
+//! Attributes of columns that an iteration has left.
 ghost use Rattle.std.specs.Prelude.{◌≡◌, ◌<◌, ◌≤◌, ◌∷◌, ◌++◌, true, length, drop, replicate, slice_index_or};
 ghost use Rattle.clustered_row.specs.Runs.{is_begun};
 ghost use Rattle.clustered_row.specs.Sizes.{width_of};
@@ -8,7 +8,7 @@ use crate::run_steps;
 use crate::runs::Runs;
 use cell_base::CellAttributes;
 
-// Those of the columns of runs, but for so many of the first run, which has more.
+// The attributes of the columns of `runs`, except the first `used`; the first run has more.
 #[derive(Drop)]
 pub(crate) struct RunsLeft<'a> {
     pub(crate) runs: &'a [Run],
@@ -29,7 +29,7 @@ impl<'a> RunsLeft<'a> {
         }
     }
 
-    // The attributes of so many columns of the next run, which are left no more.
+    // Takes `count` columns of the next run, and returns their attributes.
     #[inline(always)]
     pub(crate) fn pass_columns(&mut self, count: usize) -> &'a CellAttributes
         requires some { 0 < count }
@@ -48,7 +48,7 @@ impl<'a> RunsLeft<'a> {
         &run.attributes
     }
 
-    // The attributes of the next column, which is left no more.
+    // Takes the next column, and returns its attributes.
     #[inline(always)]
     fn pass(&mut self) -> &'a CellAttributes
         requires { 0 < length (attributes_left self.old) }
@@ -57,7 +57,7 @@ impl<'a> RunsLeft<'a> {
         self.pass_columns(1)
     }
 
-    // The attributes of the next cell's first column. Its columns are left no more.
+    // Takes the next cell's columns, and returns the first one's attributes.
     #[inline(always)]
     pub(crate) fn pass_cell(&mut self, is_wide: bool) -> &'a CellAttributes
         requires { width_of is_wide ≤ length (attributes_left self.old) }
@@ -91,7 +91,7 @@ impl Runs {
         requires { column ≤ length self.now }
         ensures { attributes_left result ≡ drop column self.now }
     {
-        let position = run_steps::place_from(&self.runs, 0, column);
+        let position = run_steps::position_from(&self.runs, 0, column);
         RunsLeft {
             runs: &self.runs[position.index..],
             used: position.offset,

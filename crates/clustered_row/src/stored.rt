@@ -12,7 +12,7 @@ use crate::runs::Runs;
 use crate::texts::Texts;
 use cell_base::CellAttributes;
 
-/// What a row keeps of its columns: one text, the sizes of its cells, runs of equal attributes, and blanks after them.
+/// The stored columns of a row: one text, the sizes of its cells, runs of equal attributes, and blanks after them.
 #[derive(Debug, Clone, Copy)]
 pub struct StoredRow<'a> {
     /// The texts of the cells that were written, side by side.
@@ -29,9 +29,9 @@ pub struct StoredRow<'a> {
 }
 
 impl Runs {
-    // The runs.
+    /// The runs.
     #[inline(always)]
-    pub(crate) fn stored(&self) -> &[Run]
+    pub fn stored(&self) -> &[Run]
         ensures shown { spread result.now ≡ self.now }
         ensures maximal { AreMaximal result.now }
     {
@@ -54,7 +54,7 @@ impl Columns {
 impl ClusteredRow {
     ghost use Rattle.clustered_row.specs.StoredRows.{IsStored};
 
-    /// What is kept of the row.
+    /// The stored columns of the row.
     pub fn stored(&self) -> StoredRow<'_>
         ensures { IsStored result self.now }
     {

@@ -12,7 +12,7 @@ use cell_base::Widths;
 use std::alloc::AllocError;
 use text_clusters::{begins_independent, begins_printable, first_character, is_independent};
 
-// The size of a cell of so many bytes, which takes one column or two.
+// The size of a cell of `len` bytes, which takes `columns` columns, one or two.
 #[inline(always)]
 pub(crate) fn size_of(len: usize, columns: usize) -> CellSize
     requires { 1 ≤ len }
@@ -31,7 +31,7 @@ pub(crate) fn size_of(len: usize, columns: usize) -> CellSize
 fn first_single<W: Widths>(text: &str, w: &W) -> Option<(usize, usize)>
     ensures single { IfSome result (λ first. BeginsSingle (W.width_of w.now) text.now first.0 first.1) }
     ensures cut { IfSome result (λ first. IsCharBoundary text.now first.0) }
-    ensures apart { IfSome result (λ first. begins_independent text.now ≡ true) }
+    ensures independent { IfSome result (λ first. begins_independent text.now ≡ true) }
 {
     if begins_printable(text) && w.has_narrow_ascii() {
         return Some((1, 1));
@@ -46,7 +46,7 @@ fn first_single<W: Widths>(text: &str, w: &W) -> Option<(usize, usize)>
     None
 }
 
-// What follows so many bytes.
+// The text after `len` bytes.
 #[inline(always)]
 fn after(text: &str, len: usize) -> &str
     requires { IsCharBoundary text.now len }
@@ -56,9 +56,9 @@ fn after(text: &str, len: usize) -> &str
     rest
 }
 
-// The sizes of the cells at the start of a text, of which each is one character that is a cluster by itself, as far as
-// they fit in so many columns. Answers how many columns they take, and the text that is left. Each character is decoded
-// once.
+// Writes the sizes of the cells at the start of a text, of which each is one character that is a cluster by itself, as
+// far as they fit in `room` columns. Returns how many columns they take, and the rest of the text. Each character is
+// decoded once.
 pub(crate) fn single_cells<'a, W: Widths>(
     sizes: &mut Vec<CellSize>,
     room: usize,
@@ -95,7 +95,7 @@ pub(crate) fn single_cells<'a, W: Widths>(
     Ok((columns + first.1, rest))
 }
 
-// The list becomes that of the sizes of so many plain cells.
+// Sets the list to the sizes of `count` plain cells.
 pub(crate) fn fill_plain(sizes: &mut Vec<CellSize>, count: usize) -> Result<(), AllocError>
     ensures plain { OnOk result (list_all is_plain sizes.new.items ≡ true) }
     ensures count { OnOk result (length sizes.new.items ≡ count) }

@@ -85,7 +85,7 @@ impl Texts {
         self.cut.clear();
     }
 
-    /// Makes room for so many more bytes, and for the sizes of so many more cells.
+    /// Makes room for `bytes` more bytes, and for the sizes of `sizes` more cells.
     #[inline(always)]
     pub fn reserve(&mut self, bytes: usize, sizes: usize) -> Result<(), AllocError>
         ensures faces { faces self.new ≡ faces self.old }
@@ -115,8 +115,8 @@ impl Texts {
         Ok(())
     }
 
-    /// Other cells, which take so many columns, follow, given by their text and sizes. Nothing is refused where
-    /// room was made for these, and for the size of each column that isn't kept.
+    /// Appends cells that take `columns` columns, given by their text and sizes. Nothing is refused where room
+    /// was made for these, and for the size of each column that isn't kept.
     pub fn push_cells(
         &mut self,
         text: &str,
@@ -137,7 +137,7 @@ impl Texts {
         Ok(())
     }
 
-    /// Spaces follow, up to so many columns.
+    /// Appends spaces up to `columns` columns.
     #[inline(always)]
     pub fn pad(&mut self, columns: usize) -> Result<(), AllocError>
         ensures done { OnOk result (faces self.new ≡ padded columns (faces self.old)) }
@@ -165,7 +165,7 @@ impl Texts {
         self.cut.set_plain(at, text);
     }
 
-    /// The columns from `at` on go. A wide cell of which half is left becomes a space.
+    /// Drops the columns from `at` on. A wide cell of which half is left becomes a space.
     #[inline(always)]
     pub fn cut(&mut self, at: usize)
         requires { at ≤ length (faces self.old) }

@@ -1,4 +1,4 @@
-//! Texts of cells that are left to be lent.
+//! Texts of cells that an iteration has left.
 ghost use Rattle.std.specs.Prelude.{◌≡◌, ◌≤◌, ◌++◌, ◌↔◌, true, false, [], length, take, drop, IsTrue, MatchOption};
 ghost use Rattle.std.specs.List.{list_all, prefix_len};
 ghost use Rattle.text_clusters.specs.Plain.{is_printable};
@@ -32,7 +32,7 @@ fn plain_sizes(sizes: &[CellSize]) -> usize
 impl<'a> TextsLeft<'a> {
     ghost use Rattle.clustered_row.specs.VisibleTexts.{faces_left};
 
-    // The next cell, which is left no more.
+    // Takes the next cell.
     #[inline(always)]
     pub(crate) fn pass(&mut self) -> Option<LentText<'a>>
         ensures { MatchOption result ((faces_left self.old ≡ []) × (faces_left self.new ≡ [])) (λ cell.
@@ -66,7 +66,7 @@ impl<'a> TextsLeft<'a> {
         self.text.is_empty()
     }
 
-    // How many plain cells are left first, of `most` at the most.
+    // How many plain cells come next, at most `most`.
     fn plain_len(&self, most: usize) -> usize
         ensures most { result ≤ most }
         ensures within { result ≤ length self.now.text.now }
@@ -80,7 +80,7 @@ impl<'a> TextsLeft<'a> {
         most.min(self.text.len())
     }
 
-    // The texts of the plain cells that are left first, of `most` at the most. They are left no more.
+    // Takes the next plain cells, at most `most`, and returns their texts.
     pub(crate) fn pass_plain(&mut self, most: usize) -> &'a str
         ensures left { faces_left self.old ≡ plain_faces result.now ++ faces_left self.new }
         ensures most { length result.now ≤ most }
@@ -109,8 +109,8 @@ impl CutText {
         }
     }
 
-    // The place of a column at which no cell is cut, looked for from another such position on.
-    fn place_before(&self, from: Position, at: usize) -> Position
+    // The position of column `at`, which cuts no cell, searched from `from` on.
+    fn position_before(&self, from: Position, at: usize) -> Position
         requires from { IsBefore self.now.text.items self.now.sizes.items from }
         requires order { from.columns ≤ at }
         requires within { at ≤ length (shown self.now) }
@@ -138,8 +138,8 @@ impl CutText {
         requires last { starts_right (drop to (shown self.now)) ≡ false }
         ensures { faces_left result ≡ drop from (take to (shown self.now)) }
     {
-        let first = self.place_before(START, from);
-        let last = self.place_before(first, to);
+        let first = self.position_before(START, from);
+        let last = self.position_before(first, to);
         TextsLeft {
             text: &self.text[first.bytes..last.bytes],
             sizes: &self.sizes[first.index..last.index],

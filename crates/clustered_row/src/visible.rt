@@ -45,12 +45,12 @@ fn width(is_wide: bool) -> usize
     if is_wide { 2 } else { 1 }
 }
 
-/// The visible cells of a row that are left, in the order of their columns. They are lent as they are stored.
+/// The remaining visible cells of a row, in the order of their columns. They are borrowed as they are stored.
 #[derive(Drop)]
 pub struct ClusteredCells<'a> {
     pub(crate) texts: TextsLeft<'a>,
     pub(crate) runs: RunsLeft<'a>,
-    // So many blanks follow these, with the same attributes.
+    // The number of blanks after these, which all have the attributes `rest`.
     pub(crate) blanks: usize,
     pub(crate) rest: &'a CellAttributes,
     // The first one of the next cell.

@@ -1,4 +1,4 @@
-//! What is asked of a row's columns.
+//! Queries on a row's columns.
 ghost use Rattle.std.specs.Prelude.{◌≡◌, ◌<◌, length, drop, slice_index_or, option_map};
 ghost use Rattle.cell_base.specs.Row.{blank};
 ghost use Rattle.cell_edits.specs.VisibleCells.{visible_cells, cell_at, ends_wrapped};

@@ -7,8 +7,8 @@ use Rattle.csi_codec.specs.declared.parameters.CsiParam.{CsiParam}
 use Rattle.csi_codec.specs.declared.parameters.CsiParam.TheVariants.{Integer, P}
 use Rattle.csi_codec.specs.declared.cursors.Cursor.{Cursor}
 use Rattle.csi_codec.specs.declared.edits.Edit.{Edit}
-use Rattle.csi_codec.specs.Parameters.{word_max, or_default, position, one_slot, two_slots, count, place_pair, Lines, read_by, number_tokens, count_tokens, pair_tokens}
-use Rattle.csi_codec.specs.Slots.{Slots, nothing, counted, placed, paired, named, extent, spaced, slots_tokens, IsPlace}
+use Rattle.csi_codec.specs.Parameters.{word_max, or_default, position, one_slot, two_slots, count, coordinate_pair, Lines, read_by, number_tokens, count_tokens, pair_tokens}
+use Rattle.csi_codec.specs.Slots.{Slots, nothing, counted, placed, paired, named, extent, spaced, slots_tokens, IsCoordinate}
 use Rattle.csi_codec.specs.Cursors.{cursor_reading}
 use Rattle.csi_codec.specs.Edits.{edit_reading}
 use Rattle.csi_codec.specs.Devices.{device_reading}
@@ -17,36 +17,36 @@ use Rattle.csi_codec.specs.Actions.{Action, cursor, edit, device, unspecified, s
 
 -- ---- Positions and counts
 
-same_place : (d n : ℕ) → Some d ≡ Some n → IsPlace d → IsPlace n
-same_place d n e h = let q : d ≡ n = cc in subst (λ (k : ℕ). IsPlace k) q h
+same_coordinate : (d n : ℕ) → Some d ≡ Some n → IsCoordinate d → IsCoordinate n
+same_coordinate d n e h = let q : d ≡ n = cc in subst (λ (k : ℕ). IsCoordinate k) q h
 
 not_zero : (m : ℕ) → eqb m 0 ≡ false → 1 ≤ m
 not_zero zero r = absurd (false≢true (sym r))
 not_zero (suc m) r = omega arith
 
-after_default : (d m n : ℕ) (c : Bool) → eqb m 0 ≡ c → leb m word_max ≡ true → Some (cond c d m) ≡ Some n → IsPlace d → IsPlace n
-after_default d m n true q p e h = same_place d n e h
-after_default d m n false q p e h = same_place m n e (not_zero m q, leb-true m word_max p)
+after_default : (d m n : ℕ) (c : Bool) → eqb m 0 ≡ c → leb m word_max ≡ true → Some (cond c d m) ≡ Some n → IsCoordinate d → IsCoordinate n
+after_default d m n true q p e h = same_coordinate d n e h
+after_default d m n false q p e h = same_coordinate m n e (not_zero m q, leb-true m word_max p)
 
-chosen_place : (d m n : ℕ) (b : Bool) → leb m word_max ≡ b → option_map (or_default d) (cond b (Some m) None) ≡ Some n → IsPlace d → IsPlace n
-chosen_place d m n true p e h = after_default d m n (eqb m 0) refl p e h
-chosen_place d m n false p e h = cc
+chosen_coordinate : (d m n : ℕ) (b : Bool) → leb m word_max ≡ b → option_map (or_default d) (cond b (Some m) None) ≡ Some n → IsCoordinate d → IsCoordinate n
+chosen_coordinate d m n true p e h = after_default d m n (eqb m 0) refl p e h
+chosen_coordinate d m n false p e h = cc
 
-place_valid : (d : ℕ) (slot : Option ℤ) (n : ℕ) → IsPlace d → position d slot ≡ Some n → IsPlace n
-place_valid d None n h e = same_place d n e h
-place_valid d (Some (negsuc m)) n h e = cc
-place_valid d (Some (pos m)) n h e = chosen_place d m n (leb m word_max) refl e h
+coordinate_valid : (d : ℕ) (slot : Option ℤ) (n : ℕ) → IsCoordinate d → position d slot ≡ Some n → IsCoordinate n
+coordinate_valid d None n h e = same_coordinate d n e h
+coordinate_valid d (Some (negsuc m)) n h e = cc
+coordinate_valid d (Some (pos m)) n h e = chosen_coordinate d m n (leb m word_max) refl e h
 
-pub count_valid : (ts : List CsiParam) (n : ℕ) → count ts ≡ Some n → IsPlace n
+pub count_valid : (ts : List CsiParam) (n : ℕ) → count ts ≡ Some n → IsCoordinate n
 count_valid ts n e = by (one_slot ts) e
   where
-    by : (slot : Option (Option ℤ)) → option_and_then (position 1) slot ≡ Some n → IsPlace n
+    by : (slot : Option (Option ℤ)) → option_and_then (position 1) slot ≡ Some n → IsCoordinate n
     by None q = cc
-    by (Some s) q = place_valid 1 s n (omega arith, omega arith) q
+    by (Some s) q = coordinate_valid 1 s n (omega arith, omega arith) q
 
-pub place_number : (d n : ℕ) → IsPlace n → position d (Some (pos n)) ≡ Some n
-place_number d zero h = absurd (omega (arith, h.0))
-place_number d (suc n) h = rw (le-leb (suc n) word_max h.1, eqb-suc-zero n) refl
+pub coordinate_number : (d n : ℕ) → IsCoordinate n → position d (Some (pos n)) ≡ Some n
+coordinate_number d zero h = absurd (omega (arith, h.0))
+coordinate_number d (suc n) h = rw (le-leb (suc n) word_max h.1, eqb-suc-zero n) refl
 
 -- ---- Lists that no `?` begins, under finals of single spellings
 
@@ -84,10 +84,10 @@ module _ {A : Type 0} (Q : A → Type 0) where
   made make R None valid h x e = cc
   made make R (Some y) valid h x e = let q : make y ≡ x = cc in subst Q q (h y (valid y refl))
 
-pub count_back : (n : ℕ) → IsPlace n → count (number_tokens n) ≡ Some n
-count_back n h = place_number 1 n h
+pub count_back : (n : ℕ) → IsCoordinate n → count (number_tokens n) ≡ Some n
+count_back n h = coordinate_number 1 n h
 
-pub count_tokens_back : (n : ℕ) → IsPlace n → count (count_tokens n) ≡ Some n
+pub count_tokens_back : (n : ℕ) → IsCoordinate n → count (count_tokens n) ≡ Some n
 count_tokens_back n h = by (eqb n 1) refl
   where
     by : (b : Bool) → eqb n 1 ≡ b → count (cond b [] (number_tokens n)) ≡ Some n
@@ -113,17 +113,17 @@ edit_found final ts e p q = ap (λ found. option_or (option_map cursor found) (o
     ∙ ap (λ found. option_or (option_map edit found) (option_map device (device_reading final ts))) q
 
 -- two positions
-pub pair_back : (d a b : ℕ) → IsPlace a → IsPlace b → place_pair d (pair_tokens a b) ≡ Some (a, b)
-pair_back d a b h k = ap (λ x. option_zip x (position d (Some (pos b)))) (place_number 1 a h) ∙ ap (λ y. option_zip (Some a) y) (place_number d b k)
+pub pair_back : (d a b : ℕ) → IsCoordinate a → IsCoordinate b → coordinate_pair d (pair_tokens a b) ≡ Some (a, b)
+pair_back d a b h k = ap (λ x. option_zip x (position d (Some (pos b)))) (coordinate_number 1 a h) ∙ ap (λ y. option_zip (Some a) y) (coordinate_number d b k)
 
-pub pair_valid : (d : ℕ) (ts : List CsiParam) (m : ℕ × ℕ) → IsPlace d → place_pair d ts ≡ Some m → IsPlace m.0 × IsPlace m.1
+pub pair_valid : (d : ℕ) (ts : List CsiParam) (m : ℕ × ℕ) → IsCoordinate d → coordinate_pair d ts ≡ Some m → IsCoordinate m.0 × IsCoordinate m.1
 pair_valid d ts m h e = by (two_slots ts) e
   where
-    both : (x y : Option ℕ) → ((n : ℕ) → x ≡ Some n → IsPlace n) → ((n : ℕ) → y ≡ Some n → IsPlace n) → option_zip x y ≡ Some m → IsPlace m.0 × IsPlace m.1
+    both : (x y : Option ℕ) → ((n : ℕ) → x ≡ Some n → IsCoordinate n) → ((n : ℕ) → y ≡ Some n → IsCoordinate n) → option_zip x y ≡ Some m → IsCoordinate m.0 × IsCoordinate m.1
     both None y p q r = cc
     both (Some a) None p q r = cc
-    both (Some a) (Some b) p q r = let s : (a, b) ≡ m = cc in (subst (λ (k : ℕ × ℕ). IsPlace k.0) s (p a refl), subst (λ (k : ℕ × ℕ). IsPlace k.1) s (q b refl))
+    both (Some a) (Some b) p q r = let s : (a, b) ≡ m = cc in (subst (λ (k : ℕ × ℕ). IsCoordinate k.0) s (p a refl), subst (λ (k : ℕ × ℕ). IsCoordinate k.1) s (q b refl))
 
-    by : (slots : Option (Option ℤ × Option ℤ)) → option_and_then (λ s. option_zip (position 1 s.0) (position d s.1)) slots ≡ Some m → IsPlace m.0 × IsPlace m.1
+    by : (slots : Option (Option ℤ × Option ℤ)) → option_and_then (λ s. option_zip (position 1 s.0) (position d s.1)) slots ≡ Some m → IsCoordinate m.0 × IsCoordinate m.1
     by None q = cc
-    by (Some s) q = both (position 1 s.0) (position d s.1) (λ n. place_valid 1 s.0 n (omega arith, omega arith)) (λ n. place_valid d s.1 n h) q
+    by (Some s) q = both (position 1 s.0) (position d s.1) (λ n. coordinate_valid 1 s.0 n (omega arith, omega arith)) (λ n. coordinate_valid d s.1 n h) q

@@ -109,12 +109,12 @@ record IsStable (forms : List Form) : Type 0 where
 -- a form that stands goes on standing, so it is enough that it cannot come to stand where a later one stands
 form-stable : (form : Form) (forms : List Form) → Reads form → IsStable forms
     → ((ts x : List CsiParam) → stands form.0 ts ≡ false → is_some (first_form forms ts) ≡ true → stands form.0 (ts ++ P 59 ∷ x) ≡ false) → IsStable (form ∷ forms)
-form-stable form forms reads stable apart = record {
+form-stable form forms reads stable separate = record {
   again = λ ts x.
       cond_both (stands form.0 ts) _ _
       (λ found. is_some found ≡ true → cond (stands form.0 (ts ++ P 59 ∷ x)) (taking (length form.0) (form.1 (ts ++ P 59 ∷ x))) (first_form forms (ts ++ P 59 ∷ x)) ≡ found)
       (λ e h. rw (stands-append form.0 ts (P 59 ∷ x) e) (ap (taking (length form.0)) (reads ts (P 59 ∷ x) e)))
-      (λ e h. rw (apart ts x e h) (stable.again ts x h));
+      (λ e h. rw (separate ts x e h) (stable.again ts x h));
 }
 
 colon_form-stable : (form : Form) (forms : List Form) → no_semicolon form.0 ≡ true → Reads form → IsStable forms → IsStable (form ∷ forms)
@@ -132,8 +132,8 @@ given_some None h c = absurd (false≢true h)
 given_some (Some f) h c = c
 
 -- a form with `;` and the number 2 cannot come to stand where one of the palette stands
-palettes_apart : (ts x : List CsiParam) → is_some (first_form palettes ts) ≡ true → stands (byte_part 59 ∷ number_part 2 ∷ semicolons_rest) (ts ++ x) ≡ false
-palettes_apart ts x h =
+palettes_disjoint : (ts x : List CsiParam) → is_some (first_form palettes ts) ≡ true → stands (byte_part 59 ∷ number_part 2 ∷ semicolons_rest) (ts ++ x) ≡ false
+palettes_disjoint ts x h =
     given_some (first_form palettes ts) h
     (first_form-each (λ ts f. stands (byte_part 59 ∷ number_part 2 ∷ semicolons_rest) (ts ++ x) ≡ false) palettes (
       λ ts c s e. first_conflict (number_part 5 ∷ byte_part 58 ∷ any_number ∷ []) (number_part 2 ∷ semicolons_rest) ts x s,
@@ -152,7 +152,7 @@ colour_forms-stable =
     (form-stable (form_at 4) palettes (opaque_reads (form_at 4).0 3 5 7 (omega arith) (omega arith) (omega arith))
     (colon_form-stable (form_at 5) (drop 6 colour_forms) refl (palette_reads (form_at 5).0 3 (omega arith))
     (form-stable (form_at 6) [] (palette_reads (form_at 6).0 3 (omega arith)) (record { again = λ ts x h. cc }) (λ ts x e h. cc)))
-    (λ ts x e h. palettes_apart ts (P 59 ∷ x) h)))))
+    (λ ts x e h. palettes_disjoint ts (P 59 ∷ x) h)))))
 
 -- ---- Shapes
 

@@ -4,7 +4,7 @@ mod SgrLemmas
 mod PieceLemmas
 mod SgrTokens
 mod TextSteps
-mod PlaceLemmas
+mod CoordinateLemmas
 mod ReadingLemmas
 mod JoinLemmas
 mod BackLemmas

@@ -18,8 +18,8 @@ use Rattle.csi_codec.specs.declared.modes.TerminalMode.TheVariants as standard
 use Rattle.csi_codec.specs.declared.modes.Mode.{Mode}
 use Rattle.csi_codec.specs.declared.modes.Mode.TheVariants as does
 use Rattle.csi_codec.specs.declared.rendition.Sgr.{Sgr}
-use Rattle.csi_codec.specs.Parameters.{is_number, word_max, number_within, count, place_pair, one_slot, slot_and_space, slot_number}
-use Rattle.csi_codec.specs.Slots.{IsPlace}
+use Rattle.csi_codec.specs.Parameters.{is_number, word_max, number_within, count, coordinate_pair, one_slot, slot_and_space, slot_number}
+use Rattle.csi_codec.specs.Slots.{IsCoordinate}
 use Rattle.csi_codec.specs.Cursors.{cursor_style_named, tabulation_clear_named, tabulation_control_named, cursor_lines, cursor_reading, save_or_margins, restore, position_request}
 use Rattle.csi_codec.specs.Edits.{erase_in_line_named, erase_in_display_named, edit_lines, edit_reading}
 use Rattle.csi_codec.specs.Modes.{dec_private_mode_named, dec_mode_of, terminal_mode_named, ansi_mode_of, private_step, standard_step, private_mode_reading, mode_reading}
@@ -37,26 +37,26 @@ single_if Q false x y e h = cc
 
 -- ---- Cursor sequences
 
-by_count : (make : ℕ → Cursor) → ((n : ℕ) → IsPlace n → IsWritableCursor (make n)) → (ts : List CsiParam) (x : Cursor) → option_map make (count ts) ≡ Some x → IsWritableCursor x
-by_count make h ts x e = made IsWritableCursor make IsPlace (count ts) (count_valid ts) h x e
+by_count : (make : ℕ → Cursor) → ((n : ℕ) → IsCoordinate n → IsWritableCursor (make n)) → (ts : List CsiParam) (x : Cursor) → option_map make (count ts) ≡ Some x → IsWritableCursor x
+by_count make h ts x e = made IsWritableCursor make IsCoordinate (count ts) (count_valid ts) h x e
 
-by_pair : (d : ℕ) → IsPlace d → (make : ℕ → ℕ → Cursor) → ((a b : ℕ) → IsPlace a → IsPlace b → IsWritableCursor (make a b))
-    → (ts : List CsiParam) (x : Cursor) → option_map (λ m. make m.0 m.1) (place_pair d ts) ≡ Some x → IsWritableCursor x
+by_pair : (d : ℕ) → IsCoordinate d → (make : ℕ → ℕ → Cursor) → ((a b : ℕ) → IsCoordinate a → IsCoordinate b → IsWritableCursor (make a b))
+    → (ts : List CsiParam) (x : Cursor) → option_map (λ m. make m.0 m.1) (coordinate_pair d ts) ≡ Some x → IsWritableCursor x
 by_pair d default make h ts x e =
-    made IsWritableCursor (λ m. make m.0 m.1) (λ m. IsPlace m.0 × IsPlace m.1) (place_pair d ts) (λ m q. pair_valid d ts m default q) (λ m p. h m.0 m.1 p.0 p.1) x e
+    made IsWritableCursor (λ m. make m.0 m.1) (λ m. IsCoordinate m.0 × IsCoordinate m.1) (coordinate_pair d ts) (λ m q. pair_valid d ts m default q) (λ m p. h m.0 m.1 p.0 p.1) x e
 
 by_name : {B : Type 0} (make : B → Cursor) → ((y : B) → IsWritableCursor (make y)) → (found : Option B) (x : Cursor) → option_map make found ≡ Some x → IsWritableCursor x
 by_name {B} make h found x e = made IsWritableCursor make (λ (y : B). Unit {0}) found (λ y q. tt) (λ y u. h y) x e
 
-first_place : IsPlace 1
-first_place = (omega arith, omega arith)
+first_coordinate : IsCoordinate 1
+first_coordinate = (omega arith, omega arith)
 
-last_place : IsPlace word_max
-last_place = (omega arith, omega arith)
+last_coordinate : IsCoordinate word_max
+last_coordinate = (omega arith, omega arith)
 
 save_or_margins-writable : (ts : List CsiParam) (x : Cursor) → save_or_margins ts ≡ Some x → IsWritableCursor x
 save_or_margins-writable [] x e = same_value IsWritableCursor variant.SaveCursor x e tt
-save_or_margins-writable (t ∷ ts) x e = by_pair word_max last_place variant.SetLeftAndRightMargins (λ a b h k. (h, k)) (t ∷ ts) x e
+save_or_margins-writable (t ∷ ts) x e = by_pair word_max last_coordinate variant.SetLeftAndRightMargins (λ a b h k. (h, k)) (t ∷ ts) x e
 
 restore-writable : (ts : List CsiParam) (x : Cursor) → restore ts ≡ Some x → IsWritableCursor x
 restore-writable [] x e = same_value IsWritableCursor variant.RestoreCursor x e tt
@@ -69,7 +69,7 @@ position_request-writable (Integer z ∷ t ∷ ts) x e = cc
 position_request-writable (Integer z ∷ []) x e = single_if IsWritableCursor (is_number 6 z) variant.RequestActivePositionReport x e tt
 
 cursor_lines-writable : EachLine IsWritableCursor cursor_lines
-cursor_lines-writable = (by_count variant.Up (λ n h. h), (by_count variant.Down (λ n h. h), (by_count variant.Right (λ n h. h), (by_count variant.Left (λ n h. h), (by_count variant.NextLine (λ n h. h), (by_count variant.PrecedingLine (λ n h. h), (by_count variant.CharacterAbsolute (λ n h. h), (by_count variant.CharacterPositionAbsolute (λ n h. h), (by_count variant.LinePositionAbsolute (λ n h. h), (by_count variant.CharacterPositionForward (λ n h. h), (by_count variant.CharacterPositionBackward (λ n h. h), (by_count variant.LinePositionForward (λ n h. h), (by_count variant.LinePositionBackward (λ n h. h), (by_count variant.ForwardTabulation (λ n h. h), (by_count variant.BackwardTabulation (λ n h. h), (by_count variant.LineTabulation (λ n h. h), (by_pair 1 first_place variant.Position (λ a b h k. (h, k)), (by_pair 1 first_place variant.CharacterAndLinePosition (λ a b h k. (h, k)), (by_pair 1 first_place variant.ActivePositionReport (λ a b h k. (h, k)), (λ ts x e. by_name variant.TabulationClear (λ known. tt) (option_and_then (λ slot. tabulation_clear_named (slot_number slot)) (one_slot ts)) x e, (λ ts x e. by_name variant.TabulationControl (λ known. tt) (option_and_then (λ slot. tabulation_control_named (slot_number slot)) (one_slot ts)) x e, (by_pair word_max last_place variant.SetTopAndBottomMargins (λ a b h k. (h, k)), (save_or_margins-writable, (restore-writable, (position_request-writable, (λ ts x e. by_name variant.CursorStyle (λ known. tt) (option_and_then (λ slot. cursor_style_named (slot_number slot)) (slot_and_space ts)) x e, tt))))))))))))))))))))))))))
+cursor_lines-writable = (by_count variant.Up (λ n h. h), (by_count variant.Down (λ n h. h), (by_count variant.Right (λ n h. h), (by_count variant.Left (λ n h. h), (by_count variant.NextLine (λ n h. h), (by_count variant.PrecedingLine (λ n h. h), (by_count variant.CharacterAbsolute (λ n h. h), (by_count variant.CharacterPositionAbsolute (λ n h. h), (by_count variant.LinePositionAbsolute (λ n h. h), (by_count variant.CharacterPositionForward (λ n h. h), (by_count variant.CharacterPositionBackward (λ n h. h), (by_count variant.LinePositionForward (λ n h. h), (by_count variant.LinePositionBackward (λ n h. h), (by_count variant.ForwardTabulation (λ n h. h), (by_count variant.BackwardTabulation (λ n h. h), (by_count variant.LineTabulation (λ n h. h), (by_pair 1 first_coordinate variant.Position (λ a b h k. (h, k)), (by_pair 1 first_coordinate variant.CharacterAndLinePosition (λ a b h k. (h, k)), (by_pair 1 first_coordinate variant.ActivePositionReport (λ a b h k. (h, k)), (λ ts x e. by_name variant.TabulationClear (λ known. tt) (option_and_then (λ slot. tabulation_clear_named (slot_number slot)) (one_slot ts)) x e, (λ ts x e. by_name variant.TabulationControl (λ known. tt) (option_and_then (λ slot. tabulation_control_named (slot_number slot)) (one_slot ts)) x e, (by_pair word_max last_coordinate variant.SetTopAndBottomMargins (λ a b h k. (h, k)), (save_or_margins-writable, (restore-writable, (position_request-writable, (λ ts x e. by_name variant.CursorStyle (λ known. tt) (option_and_then (λ slot. cursor_style_named (slot_number slot)) (slot_and_space ts)) x e, tt))))))))))))))))))))))))))
 
 pub cursor_reading-writable : (final : ℕ) (ts : List CsiParam) (x : Cursor) → cursor_reading final ts ≡ Some x → IsWritableCursor x
 unfolding cursor_reading
@@ -77,8 +77,8 @@ cursor_reading-writable final ts x e = read_by-each IsWritableCursor cursor_line
 
 -- ---- Edits
 
-by_edit_count : (make : ℕ → Edit) → ((n : ℕ) → IsPlace n → IsWritableEdit (make n)) → (ts : List CsiParam) (x : Edit) → option_map make (count ts) ≡ Some x → IsWritableEdit x
-by_edit_count make h ts x e = made IsWritableEdit make IsPlace (count ts) (count_valid ts) h x e
+by_edit_count : (make : ℕ → Edit) → ((n : ℕ) → IsCoordinate n → IsWritableEdit (make n)) → (ts : List CsiParam) (x : Edit) → option_map make (count ts) ≡ Some x → IsWritableEdit x
+by_edit_count make h ts x e = made IsWritableEdit make IsCoordinate (count ts) (count_valid ts) h x e
 
 by_extent : {B : Type 0} (make : B → Edit) → ((y : B) → IsWritableEdit (make y)) → (found : Option B) (x : Edit) → option_map make found ≡ Some x → IsWritableEdit x
 by_extent {B} make h found x e = made IsWritableEdit make (λ (y : B). Unit {0}) found (λ y q. tt) (λ y u. h y) x e

@@ -1,4 +1,4 @@
--- What a group of SGR takes are tokens of SGR, so whether a list has only such is told by what follows its first group.
+-- The tokens of a group of SGR are tokens of SGR, so the tokens after the first group decide whether a list has no others.
 use Rattle.std.proofs.Common.{◌≡◌, ℕ, zero, suc, ◌+◌, ℤ, eqb, Bool, true, cond, ◌&&◌, ◌||◌, List, [], ◌∷◌, length, drop, Option, Some, None, IfSome, option_map, arith, refl, sym, ap, ◌∙◌, subst, inl, inr}
 use Rattle.std.proofs.lemmas.Bool.{cases_Bool, eqb-true, and_parts, or_left}
 use Rattle.csi_codec.specs.declared.parameters.CsiParam.{CsiParam}
@@ -26,12 +26,12 @@ part_is_token (byte_part b) (P c) s h = subst (λ k. is_sgr_token (P k) ≡ true
 part_is_token (number_part n) (P c) s h = cc
 part_is_token any_number (P c) s h = cc
 
--- whether all are tokens of SGR is told by those after the first n
-abbrev ToldAfter : List CsiParam → ℕ → Type 0
-ToldAfter ts n = all_sgr_tokens ts ≡ all_sgr_tokens (drop n ts)
+-- the tokens after the first n decide whether all are tokens of SGR
+abbrev DecidedAfter : List CsiParam → ℕ → Type 0
+DecidedAfter ts n = all_sgr_tokens ts ≡ all_sgr_tokens (drop n ts)
 
 -- by those after a shape that stands
-stands-sgr : (parts : List Part) (ts : List CsiParam) → all_sgr_parts parts ≡ true → stands parts ts ≡ true → ToldAfter ts (length parts)
+stands-sgr : (parts : List Part) (ts : List CsiParam) → all_sgr_parts parts ≡ true → stands parts ts ≡ true → DecidedAfter ts (length parts)
 stands-sgr [] ts s h = refl
 stands-sgr (part ∷ parts) [] s h = cc
 stands-sgr (part ∷ parts) (t ∷ ts) s h =
@@ -40,21 +40,21 @@ stands-sgr (part ∷ parts) (t ∷ ts) s h =
 
 -- by those after what was found
 abbrev Passes : {A : Type 0} → List CsiParam → Option (A × ℕ) → Type 0
-Passes ts found = IfSome found (λ f. ToldAfter ts f.1)
+Passes ts found = IfSome found (λ f. DecidedAfter ts f.1)
 
 abbrev all_sgr_forms : List Form → Bool
 all_sgr_forms [] = true
 all_sgr_forms (form ∷ forms) = all_sgr_parts form.0 && all_sgr_forms forms
 
-forms_pass : (forms : List Form) → all_sgr_forms forms ≡ true → EachForm (λ ts f. ToldAfter ts f.1) forms
+forms_pass : (forms : List Form) → all_sgr_forms forms ≡ true → EachForm (λ ts f. DecidedAfter ts f.1) forms
 forms_pass [] s = tt
 forms_pass (form ∷ forms) s =
     let parts = and_parts (all_sgr_parts form.0) (all_sgr_forms forms) s in (λ ts c stood e. stands-sgr form.0 ts parts.0 stood, forms_pass forms parts.1)
 
-one_more : (z : ℤ) (ts : List CsiParam) (n : ℕ) → ToldAfter ts n → ToldAfter (Integer z ∷ ts) (n + 1)
+one_more : (z : ℤ) (ts : List CsiParam) (n : ℕ) → DecidedAfter ts n → DecidedAfter (Integer z ∷ ts) (n + 1)
 one_more z ts n h = let e : suc n ≡ n + 1 = omega arith in h ∙ ap (λ k. all_sgr_tokens (drop k (Integer z ∷ ts))) e
 
-shapes_pass : EachShape (λ ts f. ToldAfter ts f.1) (λ ts f. ToldAfter ts f.1)
+shapes_pass : EachShape (λ ts f. DecidedAfter ts f.1) (λ ts f. DecidedAfter ts f.1)
 shapes_pass = record {
   form = forms_pass colour_forms refl;
   colour = λ t z ts f h. one_more z ts f.1 h;

@@ -18,7 +18,7 @@ use Rattle.csi_codec.specs.declared.modes.Mode.TheVariants as does
 use Rattle.csi_codec.specs.Parameters.{token_text, number_tokens, pair_tokens, private_tokens}
 use Rattle.csi_codec.specs.declared.edits.Edit.{Edit}
 use Rattle.csi_codec.specs.declared.edits.Edit.TheVariants as change
-use Rattle.csi_codec.specs.Slots.{Slots, nothing, counted, placed, paired, named, extent, spaced, slots_tokens, IsPlace, ArePlaces}
+use Rattle.csi_codec.specs.Slots.{Slots, nothing, counted, placed, paired, named, extent, spaced, slots_tokens, IsCoordinate, AreCoordinates}
 use Rattle.csi_codec.specs.Cursors.{cursor_slots, cursor_spelling}
 use Rattle.csi_codec.specs.Edits.{edit_slots, edit_spelling}
 use Rattle.csi_codec.specs.Devices.{device_spelling}
@@ -69,7 +69,7 @@ kind_first k target kind ts h d l =
     (number_first (k + 1 + 1) 2 target (P 58 ∷ Integer (pos kind) ∷ ts) (omega arith) (omega arith) (omega arith)
     (sign_first (k + 1) 58 (Integer (pos kind) ∷ ts) (omega arith) (number_first k 1 kind ts (omega arith) (omega arith) (omega arith) l))) (omega arith)
 
-pair_short : (a b : ℕ) → IsPlace a → IsPlace b → Short 21 (pair_tokens a b)
+pair_short : (a b : ℕ) → IsCoordinate a → IsCoordinate b → Short 21 (pair_tokens a b)
 pair_short a b h l =
     number_first 11 10 a (P 59 ∷ Integer (pos b) ∷ []) (omega arith) (omega (arith, h.1)) (omega (arith, h.1))
     (sign_first 10 59 (Integer (pos b) ∷ []) (omega arith) (number_short 10 b (omega arith) (omega (arith, l.1)) (omega (arith, l.1))))
@@ -94,7 +94,7 @@ width (named n) = 10
 width (extent n) = 10
 width (spaced n) = 10
 
-slots_short : (s : Slots) → ArePlaces s → AreDigits s → Short (width s) (slots_tokens s)
+slots_short : (s : Slots) → AreCoordinates s → AreDigits s → Short (width s) (slots_tokens s)
 slots_short nothing h d = omega arith
 slots_short (counted n) h d = cond_both (eqb n 1) [] (number_tokens n) (Short 10) (λ e. omega arith) (λ e. number_short 10 n (omega arith) (omega (arith, h.1)) (omega (arith, h.1)))
 slots_short (placed n) h d = number_short 10 n (omega arith) (omega (arith, h.1)) (omega (arith, h.1))

@@ -16,7 +16,7 @@ use Rattle.csi_codec.specs.declared.edits.EraseInDisplay.TheVariants as display
 use Rattle.csi_codec.specs.declared.edits.Edit.{Edit}
 use Rattle.csi_codec.specs.declared.edits.Edit.TheVariants as change
 use Rattle.csi_codec.specs.Parameters.{word_max, number_tokens, pair_tokens}
-use Rattle.csi_codec.specs.Slots.{Slots, nothing, counted, placed, paired, named, extent, spaced, slots_tokens, IsPlace, ArePlaces}
+use Rattle.csi_codec.specs.Slots.{Slots, nothing, counted, placed, paired, named, extent, spaced, slots_tokens, IsCoordinate, AreCoordinates}
 use Rattle.csi_codec.specs.Cursors.{cursor_style_number, tabulation_clear_number, tabulation_control_number, cursor_slots}
 use Rattle.csi_codec.specs.Edits.{erase_in_line_number, erase_in_display_number, edit_slots}
 use Rattle.csi_codec.specs.Texts.{largest_number, is_spellable}
@@ -85,14 +85,14 @@ edit_final _ = record { low = omega arith; high = omega arith }
 pub number_written : (n : ℕ) → n ≤ word_max → is_spellable (number_tokens n) ≡ true
 number_written n h = rw (le-leb n largest_number (omega arith)) refl
 
-pair_written : (a b : ℕ) → IsPlace a → IsPlace b → is_spellable (pair_tokens a b) ≡ true
+pair_written : (a b : ℕ) → IsCoordinate a → IsCoordinate b → is_spellable (pair_tokens a b) ≡ true
 pair_written a b h k =
     let x : a ≤ largest_number = omega (arith, h.1) in
     let y : b ≤ largest_number = omega (arith, k.1) in
     rw (le-leb a largest_number x, le-leb b largest_number y) refl
 
 -- they can be spelled by bytes
-pub slots_written : (s : Slots) → ArePlaces s → AreDigits s → is_spellable (slots_tokens s) ≡ true
+pub slots_written : (s : Slots) → AreCoordinates s → AreDigits s → is_spellable (slots_tokens s) ≡ true
 slots_written nothing h d = refl
 slots_written (counted n) h d = cond_both (eqb n 1) [] (number_tokens n) (λ ts. is_spellable ts ≡ true) (λ e. refl) (λ e. number_written n h.1)
 slots_written (placed n) h d = number_written n h.1

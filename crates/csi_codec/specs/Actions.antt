@@ -80,7 +80,7 @@ sgr_reading truncated final (t ∷ ts) =
     if all_sgr_tokens (t ∷ ts) then groups sgr_groups truncated final (t ∷ ts)
     else unspecified (t ∷ ts) truncated final ∷ []
 
--- at least one mode must stand, else the whole list stays as it is
+-- the modes of a list that begins with one; any other list stays whole, as one unread action
 abbrev pub modes_or : Kind → Bool → ℕ → List CsiParam → List CsiParam → List Action
 modes_or modes truncated final ts whole =
     if is_some (group_of modes final ts) then groups modes truncated final ts

@@ -1,6 +1,7 @@
 -- Cursor sequences: the spellings by final byte, and what is written.
 use Rattle.std.specs.Prelude.{ℕ, ℤ, List, [], ◌∷◌, Option, ◌++◌, Some, None, if◌then◌else◌, option_map}
-use Rattle.csi_codec.specs.Parameters.{is_number, place_pair, one_slot, slot_and_space, named_by, named_slot, word_max}
+use Rattle.csi_codec.specs.Parameters.{is_number, coordinate_pair, one_slot, slot_and_space, named_by}
+use Rattle.csi_codec.specs.Parameters.{named_slot, word_max}
 use Rattle.csi_codec.specs.Parameters.{Lines, read_by, Spelled}
 use Rattle.csi_codec.specs.Slots.{Slots, nothing, counted, placed, paired, named, spaced, slots_spelling, count_lines}
 use Rattle.csi_codec.specs.declared.parameters.CsiParam.{CsiParam}
@@ -106,7 +107,7 @@ cursor_spelling c = slots_spelling (cursor_slots c)
 -- nothing saves the cursor; else two positions are the margins
 abbrev pub save_or_margins : List CsiParam → Option Cursor
 save_or_margins [] = Some cursor.SaveCursor
-save_or_margins ts = option_map (λ m. cursor.SetLeftAndRightMargins m.0 m.1) (place_pair word_max ts)
+save_or_margins ts = option_map (λ m. cursor.SetLeftAndRightMargins m.0 m.1) (coordinate_pair word_max ts)
 
 abbrev pub restore : List CsiParam → Option Cursor
 restore [] = Some cursor.RestoreCursor
@@ -123,12 +124,12 @@ cursor_lines =
     ∷ cursor.PrecedingLine ∷ cursor.CharacterAbsolute ∷ cursor.CharacterPositionAbsolute ∷ cursor.LinePositionAbsolute
     ∷ cursor.CharacterPositionForward ∷ cursor.CharacterPositionBackward ∷ cursor.LinePositionForward
     ∷ cursor.LinePositionBackward ∷ cursor.ForwardTabulation ∷ cursor.BackwardTabulation ∷ cursor.LineTabulation ∷ [])
-    ++ (72, λ ts. option_map (λ m. cursor.Position m.0 m.1) (place_pair 1 ts))  -- H
-    ∷ (102, λ ts. option_map (λ m. cursor.CharacterAndLinePosition m.0 m.1) (place_pair 1 ts))  -- f
-    ∷ (82, λ ts. option_map (λ m. cursor.ActivePositionReport m.0 m.1) (place_pair 1 ts))  -- R
+    ++ (72, λ ts. option_map (λ m. cursor.Position m.0 m.1) (coordinate_pair 1 ts))  -- H
+    ∷ (102, λ ts. option_map (λ m. cursor.CharacterAndLinePosition m.0 m.1) (coordinate_pair 1 ts))  -- f
+    ∷ (82, λ ts. option_map (λ m. cursor.ActivePositionReport m.0 m.1) (coordinate_pair 1 ts))  -- R
     ∷ (103, λ ts. option_map cursor.TabulationClear (named_slot tabulation_clear_named (one_slot ts)))  -- g
     ∷ (87, λ ts. option_map cursor.TabulationControl (named_slot tabulation_control_named (one_slot ts)))  -- W
-    ∷ (114, λ ts. option_map (λ m. cursor.SetTopAndBottomMargins m.0 m.1) (place_pair word_max ts))  -- r
+    ∷ (114, λ ts. option_map (λ m. cursor.SetTopAndBottomMargins m.0 m.1) (coordinate_pair word_max ts))  -- r
     ∷ (115, save_or_margins)  -- s
     ∷ (117, restore)  -- u
     ∷ (110, position_request)  -- n

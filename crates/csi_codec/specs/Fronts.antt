@@ -36,20 +36,20 @@ pub record IsSequence (bytes body : List ℕ) (control : ℕ) (rest : List ℕ) 
   pub low : 64 ≤ control
   pub high : control ≤ 126
 
--- this sequence stands at the start of the bytes: of the tokens that its bytes spell the first ones are kept
+-- this sequence is a prefix of the bytes; of the tokens that its bytes spell it keeps the first `most_tokens`
 pub record HasFront (bytes : List ℕ) (prefix : Front) : Type 0 where
   pub body : List ℕ
   pub sequence : IsSequence bytes body prefix.control prefix.rest
   pub kept : prefix.params ≡ take most_tokens (tokens_of body)
   pub dropped : prefix.truncated ≡ nat_lt most_tokens (length (tokens_of body))
 
--- no sequence stands at the start of the bytes
+-- no sequence is a prefix of the bytes
 abbrev pub HasNoFront : List ℕ → Type 0
 HasNoFront bytes = (body : List ℕ) (control : ℕ) (rest : List ℕ) → IsSequence bytes body control rest → ⊥
 
 -- ---- Laws
 
--- at most one sequence stands at the start of some bytes
+-- at most one sequence is a prefix of given bytes
 abbrev pub OneFront : Type 0
 OneFront = (bytes : List ℕ) (a b : Front) → HasFront bytes a → HasFront bytes b → a ≡ b
 

@@ -32,7 +32,7 @@ pub record CanJoin (a b : List CsiParam) (truncated : Bool) : Type 0 where
   pub unended : semicolon_at a (length a - 1) ≡ 0
   pub known : list_all is_known (csi_reading a truncated 109) ≡ true
 
--- the actions of a list, a `;` and another list are those of the one and then those of the other
+-- the actions of a list, a `;` and a second list are the actions of the first and then those of the second
 abbrev pub SgrListsJoin : Type 0
 SgrListsJoin = (a b : List CsiParam) (truncated : Bool) → CanJoin a b truncated
     → csi_reading (a ++ P 59 ∷ b) truncated 109 ≡ csi_reading a truncated 109 ++ csi_reading b truncated 109
@@ -47,14 +47,14 @@ abbrev pub begins_with_question : List CsiParam → Bool
 begins_with_question (P b ∷ ts) = b == 63
 begins_with_question _ = false
 
--- the exception: a rest of modes, after some that stand, and that begins with a `?` or stands under s or r
+-- the exception: the unread rest of modes after at least one mode, if it begins with a `?` or its final byte is s or r
 abbrev pub is_exempt : List CsiParam → ℕ → Action → Bool
 is_exempt ts final (unspecified rest truncated control) =
     nat_lt (length rest) (length ts) && not (final == 109)
     && (begins_with_question rest || (final == 115 || final == 114))
 is_exempt ts final _ = false
 
--- each action of a list reads back under the same flag, but for the exception
+-- each action of a list reads back under the same flag, except the exempt ones
 abbrev pub ActionsReadBack : Type 0
 ActionsReadBack = (ts : List CsiParam) (truncated : Bool) (final : ℕ)
     → AllByRecursion (λ a. is_exempt ts final a ≡ false → ReadsBack truncated a) (csi_reading ts truncated final)

@@ -87,7 +87,7 @@ abbrev pub dec_mode_code : DecPrivateMode → ℕ
 dec_mode_code (private.Code code) = dec_private_mode_number code
 dec_mode_code (private.Unspecified n) = n
 
--- a mode of the standard, likewise
+-- a mode of the standard: by its name, if its number has one
 abbrev pub ansi_mode_of : ℕ → TerminalMode
 ansi_mode_of n = option_map_or standard.Code (terminal_mode_named (pos n)) (standard.Unspecified n)
 
@@ -97,7 +97,7 @@ ansi_mode_code (standard.Unspecified n) = n
 
 -- ---- Reading
 
--- what is done to a private mode under a final byte
+-- what a final byte does to a private mode
 abbrev pub private_step : ℕ → DecPrivateMode → Option Mode
 private_step final m =
     if final == 104 then Some (mode.SetDecPrivateMode m)  -- h: DECSET, xterm
@@ -106,7 +106,7 @@ private_step final m =
     else (if final == 114 then Some (mode.RestoreDecPrivateMode m)  -- r: XTRESTORE
     else None)))
 
--- what is done to a mode of the standard
+-- what a final byte does to a mode of the standard
 abbrev pub standard_step : ℕ → TerminalMode → Option Mode
 standard_step final m =
     if final == 104 then Some (mode.SetMode m)  -- h: SM, ECMA-48 8.3.125

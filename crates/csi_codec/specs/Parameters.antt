@@ -25,11 +25,11 @@ abbrev pub is_number : ℕ → ℤ → Bool
 is_number n (pos m) = m == n
 is_number n (negsuc m) = false
 
--- ECMA-48 5.4.2 c: a parameter of 0 stands for the default, as an absent one does
+-- ECMA-48 5.4.2 c: a parameter of 0 means the default, as an absent one does
 abbrev pub or_default : ℕ → ℕ → ℕ
 or_default default n = if n == 0 then default else n
 
--- a position: a number that a parameter can hold, 0 and absent standing for the default
+-- a position: a number that a parameter can hold; 0 and an absent one mean the default
 abbrev pub position : ℕ → Option ℤ → Option ℕ
 position default None = Some default
 position default (Some z) = option_map (or_default default) (number_within word_max z)
@@ -73,8 +73,8 @@ abbrev pub count : List CsiParam → Option ℕ
 count ts = option_and_then (position 1) (one_slot ts)
 
 -- two positions, of which the second may have a default of its own
-abbrev pub place_pair : ℕ → List CsiParam → Option (ℕ × ℕ)
-place_pair default ts =
+abbrev pub coordinate_pair : ℕ → List CsiParam → Option (ℕ × ℕ)
+coordinate_pair default ts =
     option_and_then (λ slots. option_zip (position 1 slots.0) (position default slots.1)) (two_slots ts)
 
 -- a list that begins with a number
@@ -102,12 +102,12 @@ with_semicolon ts found = option_map (λ f. (f.0, f.1 + semicolon_at ts f.1)) fo
 
 -- ---- Writing
 
--- ECMA-48 5.4.1: a number stands in decimal, any other byte for itself
+-- ECMA-48 5.4.1: a number is written in decimal, any other byte as itself
 abbrev pub token_text : CsiParam → List ℕ
 token_text (Integer n) = signed_decimal n
 token_text (P b) = encode_utf8 b
 
--- what stands between ESC [ and the final byte, and that byte
+-- the parameters between ESC [ and the final byte, and that byte
 pub record Spelled : Type 0 where
   pub params : List CsiParam
   pub control : ℕ
@@ -149,7 +149,7 @@ private_tokens n = P 63 ∷ Integer (pos n) ∷ []
 abbrev pub named_by : {A : Type 0} → (A → ℕ) → List A → ℤ → Option A
 named_by number names z = find (λ known. is_number (number known) z) names
 
--- the name whose number stands in a slot
+-- the name of the number in a slot
 abbrev pub named_slot : {A : Type 0} → (ℤ → Option A) → Option (Option ℤ) → Option A
 named_slot named slots = option_and_then (λ slot. named (slot_number slot)) slots
 

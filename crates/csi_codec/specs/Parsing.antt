@@ -20,13 +20,13 @@ list_kind final ts =
     if final == 109 then sgr_groups
     else (if begins_with_question ts then private_mode_groups else standard_mode_groups)
 
--- the actions of a list that are to come where so many of its tokens were read: all of them where none was, and after
--- that the groups that follow
+-- the remaining actions of a list after `read` of its tokens: all of its actions where `read` is 0, else the groups of
+-- the remaining tokens
 unfoldable pub actions_after : ℕ → List CsiParam → Bool → ℕ → List Action
 actions_after read ts truncated final =
     if read == 0 then csi_reading ts truncated final else groups (list_kind final ts) truncated final (drop read ts)
 
--- the actions of a list that are to come from a position on, under a flag and a final byte
+-- the remaining actions of a list from a position on, under a flag and a final byte
 abbrev pub actions_from : ParamCursor → List CsiParam → Bool → ℕ → List Action
 actions_from position ts truncated final = actions_after position.index ts truncated final
 
@@ -35,12 +35,12 @@ abbrev pub IsStart : ParamCursor → Type 0
 IsStart position = (ts : List CsiParam) (truncated : Bool) (final : ℕ)
     → actions_from position ts truncated final ≡ csi_reading ts truncated final
 
--- the next action of a list where so many tokens were read, and how many are read then
+-- the next action of a list after `read` tokens, and how many tokens are read after it
 pub record IsNext (read : ℕ) (ts : List CsiParam) (final : ℕ) (next : Action) (after : ℕ) : Type 0 where
   pub actions : (truncated : Bool)
       → actions_after read ts truncated final ≡ next ∷ actions_after after ts truncated final
 
--- no setting is to come where so many tokens were read: the rest is the last action
+-- no setting follows the first `read` tokens: the rest is the last action
 pub record HasNoSetting (read : ℕ) (ts : List CsiParam) : Type 0 where
   pub rest : (truncated : Bool) → actions_after read ts truncated 109 ≡ unspecified (drop read ts) truncated 109 ∷ []
   pub within : read < length ts

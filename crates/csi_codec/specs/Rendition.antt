@@ -25,14 +25,14 @@ pub data Part : Type 0 where
   number_part : ℕ → Part
   any_number : Part
 
--- whether a token is what a part of a shape asks for: that byte, that number, or any number
+-- whether a token matches a part of a shape: that byte, that number, or any number
 abbrev pub is_part : Part → CsiParam → Bool
 is_part (byte_part b) (P c) = c == b
 is_part (number_part n) (Integer z) = is_number n z
 is_part any_number (Integer z) = true
 is_part _ _ = false
 
--- whether a shape stands at the start of a list
+-- whether a shape matches the start of a list
 abbrev pub stands : List Part → List CsiParam → Bool
 stands [] ts = true
 stands (part ∷ parts) [] = false
@@ -68,7 +68,7 @@ colour_at i j k l ts =
     option_and_then (λ r. option_and_then (λ g. option_and_then (λ b.
     option_map (λ a. colour r g b a) (byte_at ts l)) (byte_at ts k)) (byte_at ts j)) (byte_at ts i)
 
--- a form of a colour: its shape, and its value where the shape stands
+-- a form of a colour: its shape, and its value where the shape matches
 abbrev pub Form : Type 0
 Form = List Part × (List CsiParam → Option ColorSpec)
 
@@ -79,7 +79,7 @@ colon = byte_part 58
 abbrev pub semicolon : Part
 semicolon = byte_part 59
 
--- so many numbers, each after such a part
+-- `numbers_after part n`: n numbers, each after `part`
 abbrev pub numbers_after : Part → ℕ → List Part
 numbers_after part zero = []
 numbers_after part (suc n) = part ∷ any_number ∷ numbers_after part n
@@ -89,7 +89,7 @@ abbrev pub colour_forms : List Form
 colour_forms =
     -- :6::r:g:b:a
     (colon ∷ number_part 6 ∷ colon ∷ numbers_after colon 4, colour_at 4 6 8 10)
-    -- :2:i:r:g:b, where the colour space i is not looked at
+    -- :2:i:r:g:b, where the colour space i is ignored
     ∷ (colon ∷ number_part 2 ∷ numbers_after colon 4, opaque_at 5 7 9)
     -- :2::r:g:b
     ∷ (colon ∷ number_part 2 ∷ colon ∷ numbers_after colon 3, opaque_at 4 6 8)
@@ -107,7 +107,7 @@ colour_forms =
 abbrev pub taking : {A : Type 0} → ℕ → Option A → Option (A × ℕ)
 taking n value = option_map (λ v. (v, n)) value
 
--- the first form that stands decides
+-- the first form that matches decides
 abbrev pub first_form : List Form → List CsiParam → Option (ColorSpec × ℕ)
 first_form [] ts = None
 first_form (form ∷ forms) ts =
@@ -247,7 +247,7 @@ underline_numbered z =
     else (if is_number 5 z then Some underline.Dashed
     else None)))))
 
--- 4:k where there is such an underline, or else 4 alone; the tokens are counted with the 4
+-- 4:k where k is the number of an underline, or else 4 alone; the token count includes the 4
 abbrev pub underline_or_single : Option Underline → Option (Sgr × ℕ)
 underline_or_single None = Some (sgr.Underline underline.Single, 1)
 underline_or_single (Some line) = Some (sgr.Underline line, 3)

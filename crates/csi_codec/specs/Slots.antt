@@ -39,12 +39,12 @@ abbrev pub count_lines : {A : Type 0} → (A → Slots × ℕ) → List (ℕ →
 count_lines slots makes = map (λ make. ((slots (make 1)).1, λ ts. option_map make (count ts))) makes
 
 -- a count or a position: 1 to the largest value of a parameter
-abbrev pub IsPlace : ℕ → Type 0
-IsPlace n = (1 ≤ n) × (n ≤ word_max)
+abbrev pub IsCoordinate : ℕ → Type 0
+IsCoordinate n = (1 ≤ n) × (n ≤ word_max)
 
 -- counts and positions that can be written; the number of a name always can
-abbrev pub ArePlaces : Slots → Type 0
-ArePlaces (counted n) = IsPlace n
-ArePlaces (placed n) = IsPlace n
-ArePlaces (paired a b) = IsPlace a × IsPlace b
-ArePlaces _ = Unit {0}
+abbrev pub AreCoordinates : Slots → Type 0
+AreCoordinates (counted n) = IsCoordinate n
+AreCoordinates (placed n) = IsCoordinate n
+AreCoordinates (paired a b) = IsCoordinate a × IsCoordinate b
+AreCoordinates _ = Unit {0}

@@ -30,7 +30,7 @@ tokens_of bytes = tokens_after None bytes
 
 -- ---- Lists that bytes can spell
 
--- ECMA-48 5.4: intermediate bytes, and parameter bytes but for digits
+-- ECMA-48 5.4: intermediate bytes, and parameter bytes except digits
 abbrev pub is_sign : ℕ → Bool
 is_sign b = is_between 32 47 b || is_between 58 63 b
 
@@ -38,7 +38,7 @@ abbrev pub is_written_number : ℤ → Bool
 is_written_number (pos n) = nat_le n largest_number
 is_written_number (negsuc n) = false
 
--- no negative number, no two numbers side by side, and such bytes
+-- numbers that can be written, no two of them side by side, and bytes that are signs
 abbrev pub is_spellable : List CsiParam → Bool
 is_spellable [] = true
 is_spellable (P b ∷ ts) = is_sign b && is_spellable ts

@@ -14,7 +14,7 @@ use Rattle.csi_codec.specs.declared.modes.Mode.TheVariants as does
 use Rattle.csi_codec.specs.declared.rendition.Font.TheVariants as font
 use Rattle.csi_codec.specs.declared.rendition.Sgr.{Sgr}
 use Rattle.csi_codec.specs.declared.rendition.Sgr.TheVariants as value
-use Rattle.csi_codec.specs.Slots.{ArePlaces}
+use Rattle.csi_codec.specs.Slots.{AreCoordinates}
 use Rattle.csi_codec.specs.Cursors.{cursor_slots}
 use Rattle.csi_codec.specs.Edits.{edit_slots}
 use Rattle.csi_codec.specs.Modes.{dec_private_mode_named, terminal_mode_named}
@@ -27,10 +27,10 @@ use Rattle.csi_codec.specs.Fronts.{HasFront, whole_front}
 
 -- a cursor sequence or an edit with counts and positions from 1 to the largest value of a parameter
 abbrev pub IsWritableCursor : Cursor → Type 0
-IsWritableCursor c = ArePlaces (cursor_slots c).0
+IsWritableCursor c = AreCoordinates (cursor_slots c).0
 
 abbrev pub IsWritableEdit : Edit → Type 0
-IsWritableEdit e = ArePlaces (edit_slots e).0
+IsWritableEdit e = AreCoordinates (edit_slots e).0
 
 -- a mode by its name, or by a number that has none
 abbrev pub IsWritablePrivateMode : DecPrivateMode → Type 0

@@ -3,7 +3,7 @@ use Rattle.std.specs.Prelude.{ℕ, ◌+◌, ◌/◌, ◌%◌, Bool, ◌&&◌, �
 use Rattle.csi_codec.specs.declared.parameters.CsiParam.{CsiParam}
 use Rattle.csi_codec.specs.Parameters.{token_text}
 
--- the digits of a number below 1000, and after them whatever stands there
+-- the digits of a number below 1000; the bytes after them are arbitrary
 abbrev pub are_digits : ℕ → ℕ → ℕ → ℕ → Bool
 are_digits n a b c =
     if nat_lt n 10 then a == 48 + n

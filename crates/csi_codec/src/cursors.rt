@@ -15,7 +15,9 @@ ghost use Rattle.csi_codec.specs.Cursors.{
 ghost use Rattle.csi_codec.specs.Parameters.{one_slot, sequence_text, slot_number, spelled_text};
 
 use crate::one_based::OneBased;
-use crate::parameters::{CsiParam, count, number_and_space, one_number, one_place, place_pair};
+use crate::parameters::{
+    CsiParam, coordinate_pair, count, number_and_space, one_coordinate, one_number,
+};
 use crate::spelling::{
     ControlSequence, put_count, put_final, put_number, put_pair, write_parameters,
 };
@@ -235,28 +237,31 @@ pub(crate) fn cursor_reading(params: &[CsiParam], control: char) -> Option<Curso
         'D' => Some(Cursor::Left(count(params)?)),
         'E' => Some(Cursor::NextLine(count(params)?)),
         'F' => Some(Cursor::PrecedingLine(count(params)?)),
-        'G' => Some(Cursor::CharacterAbsolute(one_place(params)?)),
-        '`' => Some(Cursor::CharacterPositionAbsolute(one_place(params)?)),
+        'G' => Some(Cursor::CharacterAbsolute(one_coordinate(params)?)),
+        '`' => Some(Cursor::CharacterPositionAbsolute(one_coordinate(params)?)),
         'd' => Some(Cursor::LinePositionAbsolute(count(params)?)),
         'a' => Some(Cursor::CharacterPositionForward(count(params)?)),
         'j' => Some(Cursor::CharacterPositionBackward(count(params)?)),
         'e' => Some(Cursor::LinePositionForward(count(params)?)),
         'k' => Some(Cursor::LinePositionBackward(count(params)?)),
-        'H' => place_pair(1, params).map(|(line, col)| Cursor::Position { line, col }),
-        'f' => place_pair(1, params).map(|(line, col)| Cursor::CharacterAndLinePosition {
+        'H' => coordinate_pair(1, params).map(|(line, col)| Cursor::Position { line, col }),
+        'f' => coordinate_pair(1, params).map(|(line, col)| Cursor::CharacterAndLinePosition {
             line,
             col,
         }),
-        'R' => place_pair(1, params).map(|(line, col)| Cursor::ActivePositionReport { line, col }),
+        'R' => coordinate_pair(1, params).map(|(line, col)| Cursor::ActivePositionReport {
+            line,
+            col,
+        }),
         'I' => Some(Cursor::ForwardTabulation(count(params)?)),
         'Z' => Some(Cursor::BackwardTabulation(count(params)?)),
         'Y' => Some(Cursor::LineTabulation(count(params)?)),
         'g' => Some(Cursor::TabulationClear(TabulationClear::from_i64(one_number(params)?)?)),
         'W' => Some(Cursor::TabulationControl(tabulation_control(params)?)),
-        'r' => place_pair(u32::MAX, params).map(|(top, bottom)| Cursor::SetTopAndBottomMargins {
+        'r' => coordinate_pair(u32::MAX, params).map(|(
             top,
             bottom,
-        }),
+        )| Cursor::SetTopAndBottomMargins { top, bottom }),
         's' => save_or_margins(params),
         'u' if params.is_empty() => Some(Cursor::RestoreCursor),
         'n' => position_request(params),
@@ -277,7 +282,7 @@ fn save_or_margins(params: &[CsiParam]) -> Option<Cursor>
     if params.is_empty() {
         return Some(Cursor::SaveCursor);
     }
-    let (left, right) = place_pair(u32::MAX, params)?;
+    let (left, right) = coordinate_pair(u32::MAX, params)?;
     Some(Cursor::SetLeftAndRightMargins { left, right })
 }
 

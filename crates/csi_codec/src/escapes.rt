@@ -158,7 +158,7 @@ impl Esc {
         bytes.extend_from_slice(text.as_bytes())
     }
 
-    /// Makes `text` what is written for it.
+    /// Sets `text` to the text of the ESC pair.
     fn put_text(&self, text: &mut SequenceText)
         ensures { text.new ≡ esc_text self.now }
     {

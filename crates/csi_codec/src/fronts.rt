@@ -34,8 +34,8 @@ impl<'a> CsiFront<'a> {
     }
 }
 
-/// Reads the control sequence at the start of `bytes`: `ESC [`, bytes 20h to 3Fh, and a final byte 40h to 7Eh. Where
-/// something else stands there, or the sequence is not whole, it is `None`, which takes no memory.
+/// Reads the control sequence at the start of `bytes`: `ESC [`, bytes 20h to 3Fh, and a final byte 40h to 7Eh. Returns
+/// `None`, without allocating, where `bytes` begin with something else or the sequence is not whole.
 pub fn read_csi<'a>(alloc: Global, bytes: &'a [u8]) -> Result<Option<CsiFront<'a>>, AllocError>
     ensures some { IfOk result (λ found. IfSome found (λ prefix. HasFront bytes.now (front_of prefix))) }
     ensures none { IfOk result (λ found. IfNone found (HasNoFront bytes.now)) }

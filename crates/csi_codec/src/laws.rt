@@ -5,19 +5,20 @@ ghost use Rattle.csi_codec.specs.Longest.{LongestShapeDecides};
 ghost use Rattle.csi_codec.specs.Sizes.{ActionsAreShort};
 ghost use Rattle.csi_codec.specs.Writable.{WritableActionsReadBack, WritableTextsAreFronts};
 
-/// The actions of an SGR list, a `;` and another list are those of the one and then those of the other, where the
-/// first is wholly known and does not end in `;`.
+/// The actions of an SGR list, a `;` and a second list are the actions of the first list and then those of the second,
+/// where the first is wholly known and does not end in `;`.
 pub fn sgr_lists_join()
     ensures { SgrListsJoin }
 {}
 
-/// The parameters and the final byte that are written for an action of a list mean that action, under the same flag;
-/// but for a rest of modes after some that stand, where it begins with `?` or stands under `s` or `r`.
+/// The parameters and the final byte written for an action of a list mean that action, under the same flag. The
+/// exception is the unread rest of a list of modes after at least one mode, if it begins with `?` or its final byte is
+/// `s` or `r`.
 pub fn actions_read_back()
     ensures { ActionsReadBack }
 {}
 
-/// At most one sequence stands at the start of some bytes.
+/// At most one sequence is a prefix of given bytes.
 pub fn one_front()
     ensures { OneFront }
 {}
@@ -30,10 +31,10 @@ pub fn texts_are_fronts()
 {}
 
 /// An action that can be written is the one action of the parameters and the final byte that are written for it, under
-/// either flag: a cursor sequence or an edit whose counts and places are 1 to 4294967295, every request, a mode by its
-/// name or by a number to 65535 that has none, and an SGR of any colour and of the fonts 1 to 9 or the default. Its
-/// text is one sequence of them, with nothing after it. So a program that builds such an action and writes it knows
-/// how it is read.
+/// either flag: a cursor sequence or an edit whose counts and positions are 1 to 4294967295, every request, a mode by
+/// its name or by a number to 65535 that has none, and an SGR of any colour and of the fonts 1 to 9 or the default. Its
+/// text is one sequence of them, with nothing after it. So a program that builds and writes one of these actions knows
+/// how a reader reads it.
 pub fn writable_actions_read_back()
     ensures action { WritableActionsReadBack }
     ensures text { WritableTextsAreFronts }

@@ -149,8 +149,8 @@ impl ParamCursor {
     }
 }
 
-/// The setting at a place of an SGR list that isn't its end, and how many tokens are read then. The empty list is a
-/// reset, and after the first setting only tokens of SGR may stand.
+/// The setting at position `read` of an SGR list, which is not its end, and the position after it. The empty list is a
+/// reset. The first setting is read only where all tokens after it are tokens of SGR.
 #[inline(never)]
 fn setting_at(read: usize, params: &[CsiParam]) -> Option<(Sgr, usize)>
     requires { read < max (length params.now) 1 }

@@ -2,7 +2,7 @@
 ghost use Rattle.std.specs.Prelude.{◌≡◌, ◌≤◌, ◌++◌, Some, IfOk, OnErr, OnOk, option_map, drop, length, take};
 ghost use Rattle.std.specs.Fmt.{signed_decimal};
 ghost use Rattle.csi_codec.specs.Parameters.{number_within, position, semicolon_at};
-ghost use Rattle.csi_codec.specs.Parameters.{one_slot, two_slots, slot_and_space, slot_number, count, place_pair};
+ghost use Rattle.csi_codec.specs.Parameters.{one_slot, two_slots, slot_and_space, slot_number, count, coordinate_pair};
 ghost use Rattle.csi_codec.specs.Parameters.{token_text, sequence_text, spelled, spelled_text};
 ghost use Rattle.csi_codec.specs.Sequences.{IsSameRest};
 
@@ -139,7 +139,7 @@ pub(crate) fn number_within(top: u32, value: i64) -> Option<u32>
     }
 }
 
-/// The place of a number, where 0 stands for `default`, if a parameter can hold it.
+/// The position `value`, or `default` for 0; `None` where a parameter cannot hold `value`.
 #[inline(always)]
 pub(crate) fn position(default: u32, value: i64) -> Option<OneBased>
     requires { 1 ≤ default }
@@ -174,7 +174,7 @@ pub(crate) fn number_and_space(params: &[CsiParam]) -> Option<i64>
 }
 
 /// The single position that a list spells, where absent and 0 are 1.
-pub(crate) fn one_place(params: &[CsiParam]) -> Option<OneBased>
+pub(crate) fn one_coordinate(params: &[CsiParam]) -> Option<OneBased>
     ensures { result ≡ count params.now }
 {
     position(1, one_number(params)?)
@@ -184,7 +184,7 @@ pub(crate) fn one_place(params: &[CsiParam]) -> Option<OneBased>
 pub(crate) fn count(params: &[CsiParam]) -> Option<u32>
     ensures { result ≡ count params.now }
 {
-    Some(one_place(params)?.as_one_based())
+    Some(one_coordinate(params)?.as_one_based())
 }
 
 /// The two numbers of a list with at most one on each side of a `;`, where an absent one is 0.
@@ -207,15 +207,15 @@ fn two_numbers(params: &[CsiParam]) -> Option<(i64, i64)>
 
 /// The two positions that a list spells, where absent and 0 are 1, or `default` for the second.
 #[inline(always)]
-pub(crate) fn place_pair(default: u32, params: &[CsiParam]) -> Option<(OneBased, OneBased)>
+pub(crate) fn coordinate_pair(default: u32, params: &[CsiParam]) -> Option<(OneBased, OneBased)>
     requires { 1 ≤ default }
-    ensures { result ≡ place_pair default params.now }
+    ensures { result ≡ coordinate_pair default params.now }
 {
     let (a, b) = two_numbers(params)?;
     Some((position(1, a)?, position(default, b)?))
 }
 
-/// 1 where a `;` stands at a place of the list, else 0.
+/// 1 where the token at `position` is `;`, else 0.
 #[inline(always)]
 pub(crate) fn semicolon_at(params: &[CsiParam], position: usize) -> usize
     ensures same { result ≡ semicolon_at params.now position }

@@ -56,7 +56,7 @@ impl CSI {
         }
     }
 
-    /// Makes `text` what is written for it, but for the rest of a list, which it hands out.
+    /// Sets `text` to the text of the action; for the rest of a list it returns that rest instead.
     #[inline(always)]
     fn put_text(&self, text: &mut SequenceText) -> Option<&Unspecified>
         ensures text { IfNone result (text.new ≡ csi_text (action_of self.now)) }
@@ -74,7 +74,7 @@ impl CSI {
     }
 
     /// Reads a list of parameters before a final byte. The flag says that parameters were dropped; it changes no
-    /// reading, and the rest keeps it. Nothing is allocated until the actions are asked for.
+    /// reading, and the rest keeps it. Nothing is allocated until the caller takes an action from the iterator.
     pub fn parse<'a>(
         alloc: Global,
         params: &'a [CsiParam],

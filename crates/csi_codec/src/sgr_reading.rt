@@ -29,14 +29,14 @@ fn channel(value: i64) -> Option<u8>
     Some(number_within(255, value)? as u8)
 }
 
-/// The colour of the palette with this index, if it is a byte, told by so many tokens.
+/// The palette colour with this index, if it is a byte, and how many tokens give it.
 fn palette(len: usize, index: i64) -> Option<(ColorSpec, usize)>
     ensures { result ≡ taking len (palette_at 0 (Integer index ∷ [])) }
 {
     Some((ColorSpec::PaletteIndex(channel(index)?), len))
 }
 
-/// The opaque colour of three numbers, if they are bytes, told by so many tokens.
+/// The opaque colour of three numbers, if they are bytes, and how many tokens give it.
 fn opaque(len: usize, red: i64, green: i64, blue: i64) -> Option<(ColorSpec, usize)>
     ensures { result ≡ taking len (opaque_at 0 1 2 (Integer red ∷ Integer green ∷ Integer blue ∷ [])) }
 {
@@ -44,7 +44,7 @@ fn opaque(len: usize, red: i64, green: i64, blue: i64) -> Option<(ColorSpec, usi
     Some((ColorSpec::TrueColor(color), len))
 }
 
-/// The colour of four numbers, if they are bytes, told by so many tokens.
+/// The colour of four numbers, if they are bytes, and how many tokens give it.
 fn with_alpha(len: usize, red: i64, green: i64, blue: i64, alpha: i64) -> Option<(ColorSpec, usize)>
     ensures { result
         ≡ taking len (colour_at 0 1 2 3 (Integer red ∷ Integer green ∷ Integer blue ∷ Integer alpha ∷ [])) }
@@ -94,7 +94,7 @@ fn colon_form(kind: i64, params: &[CsiParam]) -> Option<(ColorSpec, usize)>
     }
 }
 
-/// The opaque colour told with `:` by what follows its kind.
+/// The opaque colour that the tokens after its kind give, with `:` between them.
 #[tactic(auto, unfolding(crate::specs::Rendition::colour_form))]
 fn colon_opaque(params: &[CsiParam]) -> Option<(ColorSpec, usize)>
     ensures { result ≡ colour_form (P 58 ∷ Integer (pos 2) ∷ params.now) }
@@ -134,7 +134,7 @@ fn colon_opaque(params: &[CsiParam]) -> Option<(ColorSpec, usize)>
     }
 }
 
-/// The colour with an alpha told with `:` by what follows its kind and a `:`.
+/// The colour with an alpha that the tokens after its kind and a `:` give, with `:` between them.
 #[tactic(auto, unfolding(crate::specs::Rendition::colour_form))]
 fn colon_alpha(params: &[CsiParam]) -> Option<(ColorSpec, usize)>
     ensures { result ≡ colour_form (P 58 ∷ Integer (pos 6) ∷ P 58 ∷ params.now) }
@@ -183,7 +183,7 @@ fn underline_numbered(kind: i64) -> Option<Underline>
     }
 }
 
-/// `4:k` where there is such an underline, else `4` alone; `params` is what follows the 4.
+/// `4:k` where `k` is the number of an underline, else `4` alone; `params` are the tokens after the 4.
 fn underline_shape(params: &[CsiParam]) -> Option<(Sgr, usize)>
     ensures shape { result ≡ underline_shape params.now }
     ensures short { IfSome result (λ found. found.1 ≤ 3) }
@@ -196,7 +196,7 @@ fn underline_shape(params: &[CsiParam]) -> Option<(Sgr, usize)>
     Some((Sgr::Underline(Underline::Single), 1))
 }
 
-/// What a number means, where it stands alone.
+/// The setting that a number alone spells, if any.
 #[inline(always)]
 pub(crate) fn plain_code(value: i64) -> Option<Sgr>
     ensures { result ≡ plain_code value }
@@ -204,7 +204,7 @@ pub(crate) fn plain_code(value: i64) -> Option<Sgr>
     single_code(channel(value)?)
 }
 
-/// What a byte means, where it stands alone.
+/// The setting that a number to 255 alone spells, if any.
 #[tactic(auto, unfolding(crate::specs::Rendition::single_code))]
 #[inline(always)]
 fn single_code(code: u8) -> Option<Sgr>
@@ -247,7 +247,7 @@ fn single_code(code: u8) -> Option<Sgr>
     }
 }
 
-/// What the longest shape at the start of a list that begins with a number stands for, and how many tokens it takes.
+/// The setting of the longest shape at the start of a list that begins with a number, and how many tokens it takes.
 #[tactic(auto, unfolding(crate::specs::Rendition::numbered_shape))]
 fn numbered_shape(value: i64, params: &[CsiParam]) -> Option<(Sgr, usize)>
     ensures shape { result ≡ numbered_shape value params.now }
@@ -268,7 +268,7 @@ fn numbered_shape(value: i64, params: &[CsiParam]) -> Option<(Sgr, usize)>
     }
 }
 
-/// What the longest shape at the start of a list stands for, and how many tokens it takes.
+/// The setting of the longest shape at the start of a list, and how many tokens it takes.
 #[tactic(auto, unfolding(crate::specs::Rendition::sgr_shape))]
 fn sgr_shape(params: &[CsiParam]) -> Option<(Sgr, usize)>
     ensures shape { result ≡ sgr_shape params.now }
@@ -282,7 +282,7 @@ fn sgr_shape(params: &[CsiParam]) -> Option<(Sgr, usize)>
     }
 }
 
-/// What the group at the start of a list stands for, and how many tokens it takes with the `;` right after it.
+/// The setting of the group at the start of a list, and how many tokens it takes with the `;` right after it.
 #[tactic(auto, unfolding(crate::specs::Rendition::sgr_group))]
 pub(crate) fn sgr_group(params: &[CsiParam]) -> Option<(Sgr, usize)>
     ensures { result ≡ sgr_group params.now }

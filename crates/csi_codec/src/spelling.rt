@@ -13,7 +13,7 @@ use std::fmt;
 pub(crate) trait ControlSequence {
     ghost spelling: { Self → Spelled };
 
-    /// Makes `text` what is written for it.
+    /// Sets `text` to the text of the sequence.
     fn put_text(&self, text: &mut SequenceText)
         ensures { text.new ≡ sequence_text (spelling self.now) };
 }

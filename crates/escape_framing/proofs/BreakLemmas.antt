@@ -8,7 +8,7 @@ use Rattle.escape_framing.specs.Bytes.{is_cut, is_stop}
 use Rattle.escape_framing.specs.Segment.{IsBegun}
 use Rattle.escape_framing.specs.Dispatch.{Print}
 use Rattle.escape_framing.specs.Held.{Kept, InCharacter, InEscape, InControlSequence, InHeader, Step, steps, character_step, kept_step, Held, Handed, handed, interrupted, fresh_step, waiting_step, held_step, nothing_held, hand_out}
-use Rattle.escape_framing.specs.Framed.{Framed, Single, framed, at_place, placed_after, framed_after, begun_bytes, bytes_begun, IsLendable, IsReached}
+use Rattle.escape_framing.specs.Framed.{Framed, Single, framed, at_offset, placed_after, framed_after, begun_bytes, bytes_begun, IsLendable, IsReached}
 use Rattle.escape_framing.proofs.Begun.{is_body}
 use Rattle.escape_framing.specs.Segment.{IsPrintable}
 use Rattle.escape_framing.proofs.Existence.Utf8Lemmas.{Spelled, in_one, in_two, in_three, in_four, spelled}
@@ -90,7 +90,7 @@ pub record GoesOn (h : Held) (bytes : List ℕ) (ds : List Framed) (h' : Held) :
 pub broken_goes : (h : Held) (b : ℕ) (rest : List ℕ) → held_step h b ≡ broken_step (held_step nothing_held b) → GoesOn h (b ∷ rest) (Single (Print 0xFFFD) ∷ []) nothing_held
 unfolding placed_after hand_out
 broken_goes h b rest e = record {
-  lends = λ start count. ap (λ (x : Handed). framed start (at_place (count + 1) x.dispatches ++ placed_after (count + 1) x.held rest)) e ∙ rw (never_lent start (count + 1) 0xFFFD refl) refl;
+  lends = λ start count. ap (λ (x : Handed). framed start (at_offset (count + 1) x.dispatches ++ placed_after (count + 1) x.held rest)) e ∙ rw (never_lent start (count + 1) 0xFFFD refl) refl;
   keeps = ap (λ (x : Handed). (hand_out x.held rest).held) e;
 }
 
@@ -104,7 +104,7 @@ text_breaks_at h b rest c more r o z l e = kept_breaks h.kept h.waiting b (reach
 same_goes : (h : Held) (b : ℕ) (rest : List ℕ) → held_step h b ≡ held_step nothing_held b → GoesOn h (b ∷ rest) [] nothing_held
 unfolding placed_after hand_out
 same_goes h b rest e = record {
-  lends = λ start count. ap (λ (x : Handed). framed start (at_place (count + 1) x.dispatches ++ placed_after (count + 1) x.held rest)) e;
+  lends = λ start count. ap (λ (x : Handed). framed start (at_offset (count + 1) x.dispatches ++ placed_after (count + 1) x.held rest)) e;
   keeps = ap (λ (x : Handed). (hand_out x.held rest).held) e;
 }
 

@@ -22,9 +22,9 @@ use Rattle.escape_framing.proofs.BegunLemmas.{length-tail}
 pub take_set : (l : List ℕ) (n b : ℕ) → n < length l → take (n + 1) (set l n b) ≡ take n l ++ b ∷ []
 take_set l n b h = grind (arith, common_steps)
 
-pub front_one : (xs : List ℕ) (b : ℕ) → 0 < length xs → take 1 (set xs 0 b) ≡ b ∷ []
-front_one [] b h = absurd (omega arith)
-front_one (x ∷ xs) b h = refl
+pub prefix_one : (xs : List ℕ) (b : ℕ) → 0 < length xs → take 1 (set xs 0 b) ≡ b ∷ []
+prefix_one [] b h = absurd (omega arith)
+prefix_one (x ∷ xs) b h = refl
 
 pub filled : (xs : List ℕ) (n : ℕ) → n ≢ 0 → length xs ≡ 4 → take n xs ≢ []
 filled [] n h l e = absurd (omega arith)

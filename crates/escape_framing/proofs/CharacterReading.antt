@@ -42,13 +42,13 @@ waits_begun p b g (c, more, s, e, n, m) = by_outcome p (c, more, s, e, n, m) (ou
     by_outcome (x ∷ p) h (begun k u v) = rw (u, v) refl
 
 -- the first bytes of a character are read as they stand
-reads_front : (p q rest : List ℕ) → IsUnfinished (Begun p) → (c : ℕ) (more : List ℕ) → IsScalar c → encode c ≡ (p ++ q) ++ more → more ≢ [] → read_on (Begun p) (q ++ rest) ≡ read_on (Begun (p ++ q)) rest
-reads_front p [] rest g c more s e m = ap (λ l. read_on (Begun l) rest) (sym (append_nil p))
-reads_front p (b ∷ q) rest g c more s e m =
+reads_prefix : (p q rest : List ℕ) → IsUnfinished (Begun p) → (c : ℕ) (more : List ℕ) → IsScalar c → encode c ≡ (p ++ q) ++ more → more ≢ [] → read_on (Begun p) (q ++ rest) ≡ read_on (Begun (p ++ q)) rest
+reads_prefix p [] rest g c more s e m = ap (λ l. read_on (Begun l) rest) (sym (append_nil p))
+reads_prefix p (b ∷ q) rest g c more s e m =
     let split : (p ++ b ∷ []) ++ q ≡ p ++ b ∷ q = append_assoc p (b ∷ []) q in
     let h : IsBegun (p ++ b ∷ []) = (c, q ++ more, s, e ∙ ap (λ l. l ++ more) (sym split) ∙ append_assoc (p ++ b ∷ []) q more, some_last p b, some q) in
     step_waits (Begun p) (Begun (p ++ b ∷ [])) b (q ++ rest) (waits_begun p b g h)
-    ∙ reads_front (p ++ b ∷ []) q rest (inr h) c more s (e ∙ ap (λ l. l ++ more) (sym split)) m
+    ∙ reads_prefix (p ++ b ∷ []) q rest (inr h) c more s (e ∙ ap (λ l. l ++ more) (sym split)) m
     ∙ ap (λ l. read_on (Begun l) rest) split
   where
     some : (q : List ℕ) → q ++ more ≢ []
@@ -57,7 +57,7 @@ reads_front p (b ∷ q) rest g c more s e m =
 
 pub reads_begun : (bytes rest : List ℕ) → IsUnfinished (Begun bytes) → read_on (Begun []) (bytes ++ rest) ≡ read_on (Begun bytes) rest
 reads_begun bytes rest (inl e) = ap (λ l. read_on (Begun []) (l ++ rest)) e ∙ ap (λ l. read_on (Begun l) rest) (sym e)
-reads_begun bytes rest (inr (c, more, s, e, n, m)) = reads_front [] bytes rest (inl refl) c more s e m
+reads_begun bytes rest (inr (c, more, s, e, n, m)) = reads_prefix [] bytes rest (inl refl) c more s e m
 
 -- ---- a whole character
 

@@ -16,9 +16,9 @@ use Rattle.escape_framing.specs.declared.event.Event.{Event}
 use Rattle.escape_framing.specs.declared.event.Event.TheVariants as event
 use Rattle.escape_framing.specs.declared.event.Read.TheVariants as read
 use Rattle.escape_framing.proofs.RunLemmas.{IsSilent}
-use Rattle.escape_framing.proofs.FrontLemmas.{reads_run, opening_handed}
+use Rattle.escape_framing.proofs.PrefixLemmas.{reads_run, opening_handed}
 use Rattle.escape_framing.proofs.ReadEventLemmas.{reads_one, reads_left}
-use Rattle.escape_framing.proofs.RunLemmas.{all_pass, quiet_front, body_handed, in_command}
+use Rattle.escape_framing.proofs.RunLemmas.{all_pass, quiet_prefix, body_handed, in_command}
 
 -- ---- a run, and an event after it
 
@@ -62,7 +62,7 @@ body_silent remaining body k =
     let l : length body ≡ prefix_len is_body_byte remaining = ap length k ∙ length-prefix_len is_body_byte remaining in
     let t : take (length body + 2) (0x1B ∷ 0x5D ∷ remaining) ≡ 0x1B ∷ 0x5D ∷ body =
     ap (λ (n : ℕ). take n (0x1B ∷ 0x5D ∷ remaining)) (two_more (length body)) ∙ ap (λ (x : List ℕ). 0x1B ∷ 0x5D ∷ x) (ap (λ (n : ℕ). take n remaining) l ∙ sym k) in
-    quiet_front nothing_held (in_command body) (0x1B ∷ 0x5D ∷ remaining) (length body + 2) (let m = prefix_len-le-length is_body_byte remaining in omega (arith, l))
+    quiet_prefix nothing_held (in_command body) (0x1B ∷ 0x5D ∷ remaining) (length body + 2) (let m = prefix_len-le-length is_body_byte remaining in omega (arith, l))
     (ap (hand_out nothing_held) t ∙ opening_handed 0x5D (in_command []) body bracket_handed ∙ body_handed [] body (subst (λ (x : List ℕ). list_all is_body_byte x ≡ true) (sym k) (all_pass is_body_byte remaining)))
     refl
 

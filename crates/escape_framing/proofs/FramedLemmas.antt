@@ -23,10 +23,10 @@ pub print_begins : (n start offset c : ℕ) (rest : List Framed) → n + length 
 print_begins n start offset c rest l = cond_both (is_lent start offset c) _ _ (BeginsFrom n) (λ e. put_begins n (offset - length (encode_utf8 c)) (encode_utf8 c) rest (omega arith)) (λ e. tt)
 
 -- a text before others that don't go on with it
-pub put_apart : (from : ℕ) (text : List ℕ) (rest : List Framed) → BeginsFrom (from + length text + 1) rest → put_text from text rest ≡ Text from text ∷ rest
-put_apart from text [] l = refl
-put_apart from text (Single d ∷ rest) l = refl
-put_apart from text (Text next more ∷ rest) l = rw (ne_eqb next (from + length text) (λ e. omega arith)) refl
+pub put_separate : (from : ℕ) (text : List ℕ) (rest : List Framed) → BeginsFrom (from + length text + 1) rest → put_text from text rest ≡ Text from text ∷ rest
+put_separate from text [] l = refl
+put_separate from text (Single d ∷ rest) l = refl
+put_separate from text (Text next more ∷ rest) l = rw (ne_eqb next (from + length text) (λ e. omega arith)) refl
 
 pub put_joined : (from : ℕ) (text more : List ℕ) (rest : List Framed) → put_text from text (Text (from + length text) more ∷ rest) ≡ Text from (text ++ more) ∷ rest
 put_joined from text more rest = rw (eq-eqb (from + length text) (from + length text) refl) refl

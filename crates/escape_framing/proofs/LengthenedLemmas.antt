@@ -8,7 +8,7 @@ use Rattle.escape_framing.specs.Bytes.{is_stop, is_intermediate, is_final, is_es
 use Rattle.escape_framing.specs.Segment.{Tail, Begun, OpenEscape, OpenControlSequence, OpenCommand, OpenHeader, OpenDevice, OpenString, bytes_of_tail, Segment, Character, Escape, ControlSequence, OperatingSystemCommand, DeviceControl, String, bytes_of, IsBegun, IsUnfinished}
 use Rattle.escape_framing.specs.Decode.{Reading, read_on}
 use Rattle.escape_framing.specs.Lengthened.{IsOpen, IsLengthened}
-use Rattle.escape_framing.proofs.Existence.Utf8Lemmas.{order, Spelled, in_one, in_two, in_three, in_four, spelled, front_of_one, front_of_two, two}
+use Rattle.escape_framing.proofs.Existence.Utf8Lemmas.{order, Spelled, in_one, in_two, in_three, in_four, spelled, prefix_of_one, prefix_of_two, two}
 use Rattle.escape_framing.proofs.Existence.SequenceLemmas.{all_push}
 use Rattle.escape_framing.proofs.Existence.CutLemmas.{cuts_on}
 use Rattle.escape_framing.proofs.ReadLemmas.{after, read_after, read_append}
@@ -43,9 +43,9 @@ longer_character : (bytes : List ℕ) → IsBegun bytes → IsLengthened bytes
 longer_character bytes (c, more, s, e, n, m) = by_size (order 0x9F c)
   where
     by_kind : c ≤ 0x9F → Spelled c → IsLengthened bytes
-    by_kind l (in_one k h) = absurd (front_of_one c bytes more (sym h ∙ e) n m)
+    by_kind l (in_one k h) = absurd (prefix_of_one c bytes more (sym h ∙ e) n m)
     by_kind l (in_two g k h) =
-        let is : bytes ≡ (192 + c / 64) ∷ [] = front_of_two _ _ bytes more (sym h ∙ e) n m in
+        let is : bytes ≡ (192 + c / 64) ∷ [] = prefix_of_two _ _ bytes more (sym h ∙ e) n m in
         let lead : 192 + c / 64 ≡ 0xC2 = omega arith in
         record {
           segment = Character 0xA9;

@@ -24,8 +24,8 @@ pub mod BreakLemmas
 pub mod LenLemmas
 pub mod StepLemmas
 pub mod SpellLemmas
-pub mod SegmentPlaces
-pub mod ApartLemmas
+pub mod SegmentOffsets
+pub mod SeparateLemmas
 mod DecodedLemmas
 pub mod BreaksLemmas
 pub mod StateLemmas
@@ -33,5 +33,5 @@ pub mod EventLemmas
 pub mod BodyLemmas
 pub mod ReadEventLemmas
 pub mod RunLemmas
-pub mod FrontLemmas
+pub mod PrefixLemmas
 mod CommandLemmas

@@ -27,10 +27,10 @@ newly_join s x y =
 -- ---- the elements of two lists that are joined
 
 module _ {X : Type 0} where
-  pub at_front : (xs ys : List X) (i : ℕ) (x : X) → slice_get xs i ≡ Some x → slice_get (xs ++ ys) i ≡ Some x
-  at_front [] ys i x h = cc
-  at_front (y ∷ xs) ys zero x h = h
-  at_front (y ∷ xs) ys (suc i) x h = at_front xs ys i x h
+  pub at_prefix : (xs ys : List X) (i : ℕ) (x : X) → slice_get xs i ≡ Some x → slice_get (xs ++ ys) i ≡ Some x
+  at_prefix [] ys i x h = cc
+  at_prefix (y ∷ xs) ys zero x h = h
+  at_prefix (y ∷ xs) ys (suc i) x h = at_prefix xs ys i x h
 
   pub at_after : (xs ys : List X) (i j : ℕ) → j ≡ length xs + i → slice_get (xs ++ ys) j ≡ slice_get ys i
   at_after [] ys i j e = ap (λ (n : ℕ). slice_get ys n) (let k : j ≡ i = omega arith in k)
@@ -57,11 +57,11 @@ of_one (y ∷ xs) ys (suc i) x h = one_on (of_one xs ys i x h)
 abbrev put_at : ℕ → List Dispatch → List (ℕ × Dispatch)
 put_at n xs = map (λ a. (n, a)) xs
 
-at_place : (n : ℕ) (xs : List Dispatch) (i offset : ℕ) (dispatch : Dispatch) → slice_get (put_at n xs) i ≡ Some (offset, dispatch) → (n ≡ offset) × (slice_get xs i ≡ Some dispatch)
-at_place n [] i offset dispatch h = cc
-at_place n (x ∷ xs) zero offset dispatch h =
+at_offset : (n : ℕ) (xs : List Dispatch) (i offset : ℕ) (dispatch : Dispatch) → slice_get (put_at n xs) i ≡ Some (offset, dispatch) → (n ≡ offset) × (slice_get xs i ≡ Some dispatch)
+at_offset n [] i offset dispatch h = cc
+at_offset n (x ∷ xs) zero offset dispatch h =
     let k : (n, x) ≡ (offset, dispatch) = cc in (ap (λ (p : ℕ × Dispatch). p.0) k, ap (λ (p : ℕ × Dispatch). Some p.1) k)
-at_place n (x ∷ xs) (suc i) offset dispatch h = at_place n xs i offset dispatch h
+at_offset n (x ∷ xs) (suc i) offset dispatch h = at_offset n xs i offset dispatch h
 
 -- what is decided stands there, whatever follows
 stands : (s x more : List ℕ) (i : ℕ) (dispatch : Dispatch) → slice_get (newly_decided s x) i ≡ Some dispatch
@@ -69,11 +69,11 @@ stands : (s x more : List ℕ) (i : ℕ) (dispatch : Dispatch) → slice_get (ne
 stands s x more i dispatch h =
     let grown : dispatches ((s ++ x) ++ more) ≡ dispatches s ++ (newly_decided s x ++ newly_decided (s ++ x) more)
     = dispatches_grow (s ++ x) more ∙ ap (λ l. l ++ newly_decided (s ++ x) more) (dispatches_grow s x) ∙ append_assoc (dispatches s) _ _ in
-    ap (λ l. slice_get l (length (dispatches s) + i)) grown ∙ at_after (dispatches s) _ i _ refl ∙ at_front (newly_decided s x) _ i dispatch h
+    ap (λ l. slice_get l (length (dispatches s) + i)) grown ∙ at_after (dispatches s) _ i _ refl ∙ at_prefix (newly_decided s x) _ i dispatch h
 
 -- a prefix decides no more than the whole
-front_decides : (s : List ℕ) (n : ℕ) → length (dispatches (take n s)) ≤ length (dispatches s)
-front_decides s n =
+prefix_decides : (s : List ℕ) (n : ℕ) → length (dispatches (take n s)) ≤ length (dispatches s)
+prefix_decides s n =
     let grown = ap length (ap dispatches (sym (take-append-drop n s)) ∙ dispatches_grow (take n s) (drop n s)) in
     omega (arith, grown, length-append (dispatches (take n s)) (newly_decided (take n s) (drop n s)))
 
@@ -91,8 +91,8 @@ placed_here prefix bytes b i dispatch h = record {
     too_early : (fewer : ℕ) → fewer ≤ length prefix → slice_get (dispatches (take fewer (prefix ++ b ∷ bytes) ++ [])) (length (dispatches prefix) + i) ≡ Some dispatch → ⊥
     too_early fewer l e =
         let same : take fewer (prefix ++ b ∷ bytes) ++ [] ≡ take fewer prefix = append-nil _ ∙ take-append-le fewer prefix (b ∷ bytes) l in
-        let few : length (dispatches (take fewer prefix)) ≤ length (dispatches prefix) + i = omega (arith, front_decides prefix fewer) in
-        let none = sym (slice_get_past (dispatches (take fewer prefix)) (length (dispatches prefix) + i) few) ∙ ap (λ l. slice_get (dispatches l) (length (dispatches prefix) + i)) (sym same) ∙ e in cc
+        let short : length (dispatches (take fewer prefix)) ≤ length (dispatches prefix) + i = omega (arith, prefix_decides prefix fewer) in
+        let none = sym (slice_get_past (dispatches (take fewer prefix)) (length (dispatches prefix) + i) short) ∙ ap (λ l. slice_get (dispatches l) (length (dispatches prefix) + i)) (sym same) ∙ e in cc
 
 placing : (bytes prefix : List ℕ) (i offset : ℕ) (dispatch : Dispatch) → slice_get (placed_from prefix bytes) i ≡ Some (offset, dispatch)
     → IsPlaced (prefix ++ bytes) (length (dispatches prefix) + i) offset dispatch
@@ -104,7 +104,7 @@ placing (b ∷ bytes) prefix i offset dispatch h =
         → OfOne (put_at (length prefix + 1) (newly_decided prefix (b ∷ []))) (placed_from (prefix ++ b ∷ []) bytes) i (offset, dispatch)
         → IsPlaced (prefix ++ b ∷ bytes) (length (dispatches prefix) + i) offset dispatch
     by_part later (here k) =
-        let p = at_place (length prefix + 1) (newly_decided prefix (b ∷ [])) i offset dispatch k in
+        let p = at_offset (length prefix + 1) (newly_decided prefix (b ∷ [])) i offset dispatch k in
         subst (λ (n : ℕ). IsPlaced (prefix ++ b ∷ bytes) (length (dispatches prefix) + i) n dispatch) p.0 (placed_here prefix bytes b i dispatch p.1)
     by_part later (there j e k) =
         let index : length (dispatches (prefix ++ b ∷ [])) + j ≡ length (dispatches prefix) + i

@@ -9,7 +9,7 @@ use Rattle.escape_framing.specs.Dispatch.{Dispatch}
 use Rattle.escape_framing.specs.Dispatch as stream
 use Rattle.escape_framing.specs.Decode.{in_character, first_byte}
 use Rattle.escape_framing.specs.Held.{Kept, InCharacter, InCommand, InDevice, InString, character_step, opened, escape_step, header_step, Held, Handed, fresh_step, held_step, nothing_held, hand_out}
-use Rattle.escape_framing.specs.Framed.{Text, Single, framed, at_place, placed_after, framed_after, begun_bytes, bytes_begun, kept_takes, takes_text, no_text, BeginsNoText, IsReached, IsCarried, Frames, IsTextLen}
+use Rattle.escape_framing.specs.Framed.{Text, Single, framed, at_offset, placed_after, framed_after, begun_bytes, bytes_begun, kept_takes, takes_text, no_text, BeginsNoText, IsReached, IsCarried, Frames, IsTextLen}
 use Rattle.escape_framing.specs.Prefixes.{IsLastAt}
 use Rattle.escape_framing.specs.Lending.{Lending}
 use Rattle.escape_framing.specs.Event.{handed_out, held_resumed, rank, IsAlone, IsHeldLeft}
@@ -27,19 +27,19 @@ use Rattle.escape_framing.proofs.SingleLemmas.{carried_none, some_or_none}
 use Rattle.escape_framing.proofs.BreakLemmas.{lead_of}
 use Rattle.escape_framing.proofs.StepLemmas.{frames_text, text_ends, frames_broken, broken_same, frames_alone, nothing_reached}
 use Rattle.escape_framing.proofs.BodyLemmas.{opens_read, opens_left, closed_takes_none, none_more}
-use Rattle.escape_framing.proofs.FrontLemmas.{reads_sequence}
+use Rattle.escape_framing.proofs.PrefixLemmas.{reads_sequence}
 use Rattle.std.proofs.lemmas.Bool.{cases_Bool}
 use Rattle.std.proofs.lemmas.List.{map-append}
 
 -- ---- an event that is left a byte stands alone
 
-event_alone : (l : Lending) (e : Option Event) (start offset : ℕ) (placed : List (ℕ × Dispatch)) → IsAlone e → framed start (at_place offset (handed_out l e) ++ placed) ≡ map Single (handed_out l e) ++ framed start placed
+event_alone : (l : Lending) (e : Option Event) (start offset : ℕ) (placed : List (ℕ × Dispatch)) → IsAlone e → framed start (at_offset offset (handed_out l e) ++ placed) ≡ map Single (handed_out l e) ++ framed start placed
 event_alone l None start offset placed a = refl
 event_alone l (Some (event.Print c)) start offset placed a = rw (never_lent start offset c a) refl
 event_alone l (Some _) start offset placed a = refl
 
-at_both : (offset : ℕ) (xs ys : List Dispatch) (placed : List (ℕ × Dispatch)) → at_place offset (xs ++ ys) ++ placed ≡ at_place offset xs ++ (at_place offset ys ++ placed)
-at_both offset xs ys placed = ap (λ l. l ++ placed) (map-append (λ (d : Dispatch). (offset, d)) xs ys) ∙ append_assoc (at_place offset xs) (at_place offset ys) placed
+at_both : (offset : ℕ) (xs ys : List Dispatch) (placed : List (ℕ × Dispatch)) → at_offset offset (xs ++ ys) ++ placed ≡ at_offset offset xs ++ (at_offset offset ys ++ placed)
+at_both offset xs ys placed = ap (λ l. l ++ placed) (map-append (λ (d : Dispatch). (offset, d)) xs ys) ∙ append_assoc (at_offset offset xs) (at_offset offset ys) placed
 
 -- ---- what is held where a byte is left
 
@@ -112,9 +112,9 @@ unfolding placed_after hand_out
 frames_left count old b rest l e r k s f = record {
   within = omega arith;
   lends = λ start.
-      ap (λ (x : Handed). framed start (at_place (start + count + 1) x.dispatches ++ placed_after (start + count + 1) x.held rest)) s
+      ap (λ (x : Handed). framed start (at_offset (start + count + 1) x.dispatches ++ placed_after (start + count + 1) x.held rest)) s
       ∙ ap (framed start) (at_both (start + count + 1) (handed_out l e) (held_step l.held b).dispatches (placed_after (start + count + 1) (held_step l.held b).held rest))
-      ∙ event_alone l e start (start + count + 1) (at_place (start + count + 1) (held_step l.held b).dispatches ++ placed_after (start + count + 1) (held_step l.held b).held rest) f.alone
+      ∙ event_alone l e start (start + count + 1) (at_offset (start + count + 1) (held_step l.held b).dispatches ++ placed_after (start + count + 1) (held_step l.held b).held rest) f.alone
       ∙ (let q : start + count ≡ start + count + 0 = omega arith in ap (λ (m : ℕ). map Single (handed_out l e) ++ framed_after start m l.held (b ∷ rest)) q);
   keeps = ap (λ (x : Handed). (hand_out x.held rest).held) s;
   reached = left_reached l.held f.closed;

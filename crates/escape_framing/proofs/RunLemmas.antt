@@ -26,8 +26,8 @@ pub record IsSilent (held : Held) (bytes : List ℕ) (n : ℕ) (after : Held) : 
   pub keeps : (hand_out held (take n bytes)).held ≡ after
   pub none : begun_bytes after ≡ []
 
-pub quiet_front : (held after : Held) (bytes : List ℕ) (n : ℕ) → n ≤ length bytes → hand_out held (take n bytes) ≡ record { dispatches = []; held = after } → begun_bytes after ≡ [] → IsSilent held bytes n after
-quiet_front held after bytes n l q b = record { within = l; silent = ap (λ (x : Handed). x.dispatches) q; keeps = ap (λ (x : Handed). x.held) q; none = b }
+pub quiet_prefix : (held after : Held) (bytes : List ℕ) (n : ℕ) → n ≤ length bytes → hand_out held (take n bytes) ≡ record { dispatches = []; held = after } → begun_bytes after ≡ [] → IsSilent held bytes n after
+quiet_prefix held after bytes n l q b = record { within = l; silent = ap (λ (x : Handed). x.dispatches) q; keeps = ap (λ (x : Handed). x.held) q; none = b }
 
 -- ---- parameter bytes
 
@@ -54,7 +54,7 @@ pub parameters_silent : (held after : Held) (p q : Parameters) (bytes : List ℕ
 parameters_silent held after p q bytes n w e f k m a =
     let d : held ≡ in_sequence p = e ∙ ap (λ (x : Bool). record { kept = InControlSequence p; waiting = x }) f in
     let g : after ≡ in_sequence q = a ∙ ap (λ (x : Bool). record { kept = InControlSequence q; waiting = x }) f in
-    quiet_front held after bytes n (let l = prefix_len-le-length is_parameter bytes in omega (arith, k))
+    quiet_prefix held after bytes n (let l = prefix_len-le-length is_parameter bytes in omega (arith, k))
     (ap (λ (h : Held). hand_out h (take n bytes)) d
     ∙ parameters_handed p (take n bytes) (subst (λ (j : ℕ). list_all is_parameter (take j bytes) ≡ true) (sym k) (all_pass is_parameter bytes))
     ∙ ap (λ (x : Parameters). record { dispatches = []; held = in_sequence x }) (sym m)
@@ -88,7 +88,7 @@ body_silent held after body new bytes prefix w e f k n a =
     let l : length prefix ≡ prefix_len is_body_byte bytes = ap length k ∙ length-prefix_len is_body_byte bytes in
     let t : take (length prefix) bytes ≡ prefix = ap (λ (m : ℕ). take m bytes) l ∙ sym k in
     let g : after ≡ in_command new = a ∙ ap (λ (x : Bool). record { kept = InCommand new; waiting = x }) f in
-    quiet_front held after bytes (length prefix) (let m = prefix_len-le-length is_body_byte bytes in omega (arith, l))
+    quiet_prefix held after bytes (length prefix) (let m = prefix_len-le-length is_body_byte bytes in omega (arith, l))
     ((λ i. hand_out (e i) (t i)) ∙ ap (λ (x : Bool). hand_out (record { kept = InCommand body; waiting = x }) prefix) f
     ∙ body_handed body prefix (subst (λ (x : List ℕ). list_all is_body_byte x ≡ true) (sym k) (all_pass is_body_byte bytes))
     ∙ ap (λ (x : List ℕ). record { dispatches = []; held = in_command x }) (sym n)
@@ -130,7 +130,7 @@ string_handed (b ∷ xs) h =
 pub string_silent : (held : Held) (bytes : List ℕ) (n : ℕ) (w : Bool) → held ≡ record { kept = InString; waiting = w } → w ≡ false → n ≡ prefix_len is_string_byte bytes → IsSilent held bytes n held
 string_silent held bytes n w e f k =
     let d : held ≡ in_string = e ∙ ap (λ (x : Bool). record { kept = InString; waiting = x }) f in
-    quiet_front held held bytes n (let l = prefix_len-le-length is_string_byte bytes in omega (arith, k))
+    quiet_prefix held held bytes n (let l = prefix_len-le-length is_string_byte bytes in omega (arith, k))
     (ap (λ (h : Held). hand_out h (take n bytes)) d
     ∙ string_handed (take n bytes) (subst (λ (j : ℕ). list_all is_string_byte (take j bytes) ≡ true) (sym k) (all_pass is_string_byte bytes))
     ∙ ap (λ (h : Held). record { dispatches = []; held = h }) (sym d))

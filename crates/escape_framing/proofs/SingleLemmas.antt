@@ -5,7 +5,7 @@ use Rattle.std.specs.Char.{IsScalar}
 use Rattle.escape_framing.specs.Segment.{IsPrintable}
 use Rattle.escape_framing.specs.Dispatch.{Dispatch, Print}
 use Rattle.escape_framing.specs.Held.{Held, Handed, held_step, held_of}
-use Rattle.escape_framing.specs.Framed.{Single, is_lent, framed, at_place, placed_after, framed_after, begun_bytes, IsLendable, BeginsNoText, IsCarried, IsReached}
+use Rattle.escape_framing.specs.Framed.{Single, is_lent, framed, at_offset, placed_after, framed_after, begun_bytes, IsLendable, BeginsNoText, IsCarried, IsReached}
 use Rattle.escape_framing.proofs.Begun.{begun_in, is_body}
 use Rattle.escape_framing.proofs.HeldLemmas.{step_decides}
 use Rattle.escape_framing.proofs.FramedLemmas.{BeginsFrom, never_lent, print_begins}
@@ -15,7 +15,7 @@ use Rattle.std.proofs.lemmas.Bool.{cases_Bool, ne_eqb, lt-leb, cases_eq}
 
 -- dispatches at one position, each by itself
 abbrev pub IsAlone : ℕ → ℕ → List Dispatch → Type 0
-IsAlone start offset ds = (placed : List (ℕ × Dispatch)) → framed start (at_place offset ds ++ placed) ≡ map Single ds ++ framed start placed
+IsAlone start offset ds = (placed : List (ℕ × Dispatch)) → framed start (at_offset offset ds ++ placed) ≡ map Single ds ++ framed start placed
 
 pub none_alone : (start offset : ℕ) (ds : List Dispatch) → PrintNone ds → IsAlone start offset ds
 none_alone start offset [] p placed = refl
@@ -48,7 +48,7 @@ longer p b = length-append p (b ∷ [])
 
 ending_alone : (start count b : ℕ) (h : Held) (rest : List ℕ) (ds : List Dispatch) → BeginsNoText (b ∷ rest) → Ending [] b ds h.kept h.waiting → StandAlone start (count + 1) h rest ds
 ending_alone start count b h rest ds n (goes_on e f) = record {
-  alone = λ placed. ap (λ (l : List Dispatch). framed start (at_place (count + 1) l ++ placed)) e ∙ ap (λ (l : List Dispatch). map Single l ++ framed start placed) (sym e);
+  alone = λ placed. ap (λ (l : List Dispatch). framed start (at_offset (count + 1) l ++ placed)) e ∙ ap (λ (l : List Dispatch). map Single l ++ framed start placed) (sym e);
   carried = record { carried = λ c more l k m. absurd (n.none c more l (ap (λ (l : List ℕ). l ++ rest) (sym f) ∙ k)) };
 }
 ending_alone start count b h rest ds n (prints c s p e f g w) =
@@ -78,7 +78,7 @@ printing_alone start count b h0 h rest ds n k (whole_one (goes_on e f)) = by_byt
     by_bytes : (begun_bytes h0 ≡ []) ⊎ (begun_bytes h0 ≢ []) → StandAlone start (count + 1) h rest ds
     by_bytes (inl z) = ending_alone start count b h rest ds n (goes_on e (f ∙ ap (λ (l : List ℕ). l ++ b ∷ []) z))
     by_bytes (inr z) = record {
-      alone = λ placed. ap (λ (l : List Dispatch). framed start (at_place (count + 1) l ++ placed)) e ∙ ap (λ (l : List Dispatch). map Single l ++ framed start placed) (sym e);
+      alone = λ placed. ap (λ (l : List Dispatch). framed start (at_offset (count + 1) l ++ placed)) e ∙ ap (λ (l : List Dispatch). map Single l ++ framed start placed) (sym e);
       carried = record {
         carried = λ c more l q m.
             let q' : begun_bytes h0 ++ (b ∷ rest) ≡ encode_utf8 c ++ more = sym (append_assoc (begun_bytes h0) (b ∷ []) rest) ∙ ap (λ (x : List ℕ). x ++ rest) (sym f) ∙ q in
@@ -113,12 +113,12 @@ body_alone h b rest start count r o = let q = held_body h b (reached_sound h r) 
 
 -- ---- no text begins
 
-none_begins : (n start offset : ℕ) (ds : List Dispatch) (placed : List (ℕ × Dispatch)) → PrintNone ds → BeginsFrom n (framed start placed) → BeginsFrom n (framed start (at_place offset ds ++ placed))
+none_begins : (n start offset : ℕ) (ds : List Dispatch) (placed : List (ℕ × Dispatch)) → PrintNone ds → BeginsFrom n (framed start placed) → BeginsFrom n (framed start (at_offset offset ds ++ placed))
 none_begins n start offset [] placed p h = h
 none_begins n start offset (Print c ∷ ds) placed p h = absurd p
 none_begins n start offset (d ∷ ds) placed p h = tt
 
-alone_begins : (n start offset c : ℕ) (ds : List Dispatch) (placed : List (ℕ × Dispatch)) → is_lent start offset c ≡ false → BeginsFrom n (framed start (at_place offset (Print c ∷ ds) ++ placed))
+alone_begins : (n start offset c : ℕ) (ds : List Dispatch) (placed : List (ℕ × Dispatch)) → is_lent start offset c ≡ false → BeginsFrom n (framed start (at_offset offset (Print c ∷ ds) ++ placed))
 alone_begins n start offset c ds placed e = rw e tt
 
 -- so many bytes have been read before what is held of a character, or that can't become a character to lend
@@ -139,7 +139,7 @@ begins_late (b ∷ rest) stream start count n l =
     placed = placed_after (count + 1) next.held rest
 
     Goal : List Dispatch → Type 0
-    Goal ds = BeginsFrom n (framed start (at_place (count + 1) ds ++ placed))
+    Goal ds = BeginsFrom n (framed start (at_offset (count + 1) ds ++ placed))
 
     soon : IsLate n count (begun_bytes (held_of stream)) (b ∷ rest) → begun_bytes next.held ≡ [] → IsLate n (count + 1) (begun_bytes next.held) rest
     soon (inl k) z = inl (omega (arith, ap length z))

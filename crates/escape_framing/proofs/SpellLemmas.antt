@@ -5,7 +5,7 @@ use Rattle.escape_framing.specs.Dispatch.{Dispatch, Print}
 use Rattle.escape_framing.specs.Cut.{newly_decided}
 use Rattle.escape_framing.specs.Held.{held_of}
 use Rattle.escape_framing.specs.Placed.{placed_from}
-use Rattle.escape_framing.specs.Framed.{Framed, Text, Single, is_lent, put_text, put_character, framed, at_place, placed_after, Spells, nothing, alone, in_text, AreApart}
+use Rattle.escape_framing.specs.Framed.{Framed, Text, Single, is_lent, put_text, put_character, framed, at_offset, placed_after, Spells, nothing, alone, in_text, AreSeparate}
 use Rattle.escape_framing.proofs.HeldLemmas.{step_decides}
 use Rattle.std.proofs.lemmas.Bool.{cond_both, eqb-true, eqb-false}
 
@@ -35,25 +35,25 @@ framed_spells start ((n, d) ∷ placed) = alone d (framed start placed) (map (λ
 
 -- ---- side by side
 
-after_text : (from : ℕ) (text more : List ℕ) (next : ℕ) (items : List Framed) → AreApart (Text next more ∷ items) → next ≡ from + length text → AreApart (Text from (text ++ more) ∷ items)
+after_text : (from : ℕ) (text more : List ℕ) (next : ℕ) (items : List Framed) → AreSeparate (Text next more ∷ items) → next ≡ from + length text → AreSeparate (Text from (text ++ more) ∷ items)
 after_text from text more next [] h e = tt
 after_text from text more next (Single d ∷ items) h e = h
 after_text from text more next (Text other rest ∷ items) h e = (λ k. h.0 (let m = length-append text more in omega arith), h.1)
 
-put_stands_apart : (from : ℕ) (text : List ℕ) (items : List Framed) → AreApart items → AreApart (put_text from text items)
-put_stands_apart from text [] h = tt
-put_stands_apart from text (Single d ∷ items) h = h
-put_stands_apart from text (Text next more ∷ items) h =
-    cond_both (next == from + length text) _ _ AreApart (λ e. after_text from text more next items h (eqb-true next (from + length text) e)) (λ e. (eqb-false next (from + length text) e, h))
+put_is_separate : (from : ℕ) (text : List ℕ) (items : List Framed) → AreSeparate items → AreSeparate (put_text from text items)
+put_is_separate from text [] h = tt
+put_is_separate from text (Single d ∷ items) h = h
+put_is_separate from text (Text next more ∷ items) h =
+    cond_both (next == from + length text) _ _ AreSeparate (λ e. after_text from text more next items h (eqb-true next (from + length text) e)) (λ e. (eqb-false next (from + length text) e, h))
 
-character_apart : (start offset c : ℕ) (items : List Framed) → AreApart items → AreApart (put_character start offset c items)
-character_apart start offset c items h =
-    cond_both (is_lent start offset c) _ _ AreApart (λ e. put_stands_apart (offset - length (encode_utf8 c)) (encode_utf8 c) items h) (λ e. h)
+character_separate : (start offset c : ℕ) (items : List Framed) → AreSeparate items → AreSeparate (put_character start offset c items)
+character_separate start offset c items h =
+    cond_both (is_lent start offset c) _ _ AreSeparate (λ e. put_is_separate (offset - length (encode_utf8 c)) (encode_utf8 c) items h) (λ e. h)
 
-pub framed_apart : (start : ℕ) (placed : List (ℕ × Dispatch)) → AreApart (framed start placed)
-framed_apart start [] = tt
-framed_apart start ((n, Print c) ∷ placed) = character_apart start n c (framed start placed) (framed_apart start placed)
-framed_apart start ((n, _) ∷ placed) = framed_apart start placed
+pub framed_separate : (start : ℕ) (placed : List (ℕ × Dispatch)) → AreSeparate (framed start placed)
+framed_separate start [] = tt
+framed_separate start ((n, Print c) ∷ placed) = character_separate start n c (framed start placed) (framed_separate start placed)
+framed_separate start ((n, _) ∷ placed) = framed_separate start placed
 
 -- ---- what is held is enough for the positions too
 
@@ -63,4 +63,4 @@ placed_same [] stream = refl
 placed_same (b ∷ bytes) stream =
     let d = step_decides stream b in
     let n : length stream + 1 ≡ length (stream ++ b ∷ []) = sym (length-append stream (b ∷ [])) in
-    (λ i. at_place (length stream + 1) (sym d.0 i) ++ placed_after (n i) (sym d.1 i) bytes) ∙ ap (λ l. at_place (length stream + 1) (newly_decided stream (b ∷ [])) ++ l) (placed_same bytes (stream ++ b ∷ []))
+    (λ i. at_offset (length stream + 1) (sym d.0 i) ++ placed_after (n i) (sym d.1 i) bytes) ∙ ap (λ l. at_offset (length stream + 1) (newly_decided stream (b ∷ [])) ++ l) (placed_same bytes (stream ++ b ∷ []))

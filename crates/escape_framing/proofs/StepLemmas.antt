@@ -92,15 +92,15 @@ text_after count n h bytes k p g =
           g.lends start (start + count)
           ∙ ap (framed_after start (start + count) nothing_held) (sym (take-append-drop n bytes))
           ∙ reads_text start (start + count) (take n bytes) (drop n bytes) k.text (some_taken bytes n k.within p) (omega arith)
-          (subst (λ (m : ℕ). BeginsFrom (start + count + m + 1) (framed_after start (start + count + m) nothing_held (drop n bytes))) (sym len) (apart start))
+          (subst (λ (m : ℕ). BeginsFrom (start + count + m + 1) (framed_after start (start + count + m) nothing_held (drop n bytes))) (sym len) (separate start))
           ∙ ap (λ (m : ℕ). Text (start + count) (take n bytes) ∷ framed_after start (start + count + m) nothing_held (drop n bytes)) len;
       keeps = g.keeps ∙ ap (λ (l : List ℕ). (hand_out nothing_held l).held) (sym (take-append-drop n bytes)) ∙ text_kept (take n bytes) (drop n bytes) k.text;
       reached = nothing_reached;
       carried = carried_none 0 (count + n) nothing_held (drop n bytes) refl;
     }
   where
-    apart : (start : ℕ) → BeginsFrom (start + count + n + 1) (framed_after start (start + count + n) nothing_held (drop n bytes))
-    apart start = subst (λ (h' : Held). IsLate (start + count + n + 1) (start + count + n) (begun_bytes h') (drop n bytes) → BeginsFrom (start + count + n + 1) (framed_after start (start + count + n) h' (drop n bytes))) start_held
+    separate : (start : ℕ) → BeginsFrom (start + count + n + 1) (framed_after start (start + count + n) nothing_held (drop n bytes))
+    separate start = subst (λ (h' : Held). IsLate (start + count + n + 1) (start + count + n) (begun_bytes h') (drop n bytes) → BeginsFrom (start + count + n + 1) (framed_after start (start + count + n) h' (drop n bytes))) start_held
         (begins_late (drop n bytes) [] start (start + count + n) (start + count + n + 1)) (inr (omega arith, k.rest))
 
 pub frames_text : (count n : ℕ) (h : Held) (b : ℕ) (rest : List ℕ) → IsReached h → takes_text h b ≡ true → begun_bytes h ≡ [] → IsTextLen (b ∷ rest) n → 0 < n

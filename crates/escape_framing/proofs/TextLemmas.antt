@@ -9,10 +9,10 @@ use Rattle.escape_framing.specs.Segment.{Segment, Begun, IsBegun, IsUnfinished, 
 use Rattle.escape_framing.specs.Decode.{Reading, ends, in_character, next_byte}
 use Rattle.escape_framing.specs.Dispatch.{Dispatch, Print, dispatches_of}
 use Rattle.escape_framing.specs.Held.{InCharacter, Step, steps, kept_of, character_step, Held, Handed, handed, fresh_step, waiting_step, held_step, nothing_held, hand_out}
-use Rattle.escape_framing.specs.Framed.{Text, is_lent, put_text, framed, at_place, placed_after, framed_after, IsLendable, IsText, no_text, text_of}
+use Rattle.escape_framing.specs.Framed.{Text, is_lent, put_text, framed, at_offset, placed_after, framed_after, IsLendable, IsText, no_text, text_of}
 use Rattle.escape_framing.proofs.Existence.Utf8Lemmas.{Spelled, in_one, in_two, in_three, in_four, spelled}
 use Rattle.escape_framing.proofs.CharacterReading.{waits_begun, ends_character, plain_segment, no_escape}
-use Rattle.escape_framing.proofs.FramedLemmas.{BeginsFrom, lends, put_apart, put_joined}
+use Rattle.escape_framing.proofs.FramedLemmas.{BeginsFrom, lends, put_separate, put_joined}
 use Rattle.escape_framing.proofs.HeldLemmas.{Inner, inner, no_c2, first_c2, not_lead}
 use Rattle.std.proofs.lemmas.Bool.{ne_eqb, cases_eq}
 
@@ -62,9 +62,9 @@ both count held bytes = (placed_after count held bytes, (hand_out held bytes).he
 abbrev printed : ℕ → ℕ → List ℕ → Both
 printed count c bytes = ((count, Print c) ∷ placed_after count nothing_held bytes, (hand_out nothing_held bytes).held)
 
-step_of : (count : ℕ) (held : Held) (b : ℕ) (bytes : List ℕ) (h : Handed) → held_step held b ≡ h → both count held (b ∷ bytes) ≡ (at_place (count + 1) h.dispatches ++ placed_after (count + 1) h.held bytes, (hand_out h.held bytes).held)
+step_of : (count : ℕ) (held : Held) (b : ℕ) (bytes : List ℕ) (h : Handed) → held_step held b ≡ h → both count held (b ∷ bytes) ≡ (at_offset (count + 1) h.dispatches ++ placed_after (count + 1) h.held bytes, (hand_out h.held bytes).held)
 unfolding placed_after hand_out
-step_of count held b bytes h e = ap (λ (x : Handed). (at_place (count + 1) x.dispatches ++ placed_after (count + 1) x.held bytes, (hand_out x.held bytes).held)) e
+step_of count held b bytes h e = ap (λ (x : Handed). (at_offset (count + 1) x.dispatches ++ placed_after (count + 1) x.held bytes, (hand_out x.held bytes).held)) e
 
 -- the bytes of a character after its first ones, where none of them is a C2
 reads_on : (count c x : ℕ) (p q more : List ℕ) → IsScalar c → IsPrintable c → encode c ≡ (x ∷ p) ++ q → q ≢ []
@@ -155,7 +155,7 @@ reads_text start count text rest (text_of c [] h t) n l r =
     let e : encode c ++ [] ≡ encode c = append-nil (encode c) in
     ap (λ (b : List ℕ). framed_after start count nothing_held (b ++ rest)) e
     ∙ lent_character start count c rest h l
-    ∙ put_apart count (encode c) (framed_after start (count + length (encode c)) nothing_held rest) (subst (λ (b : List ℕ). BeginsFrom (count + length b + 1) (framed_after start (count + length b) nothing_held rest)) e r)
+    ∙ put_separate count (encode c) (framed_after start (count + length (encode c)) nothing_held rest) (subst (λ (b : List ℕ). BeginsFrom (count + length b + 1) (framed_after start (count + length b) nothing_held rest)) e r)
     ∙ ap (λ (b : List ℕ). Text count b ∷ framed_after start (count + length b) nothing_held rest) (sym e)
 reads_text start count text rest (text_of c (x ∷ more) h t) n l r =
     let k : count + length (encode c) + length (x ∷ more) ≡ count + length (encode c ++ x ∷ more) = omega (arith, length-append (encode c) (x ∷ more)) in

@@ -11,7 +11,7 @@ use Rattle.escape_framing.specs.Decode.{read_on}
 use Rattle.escape_framing.specs.Dispatch.{Dispatch, Print, Control, Data, Exit}
 use Rattle.escape_framing.specs.Held.{Kept, InCharacter, InCommand, InDevice, InString, kept_of, Step, steps, before, character_step, command_step, device_step, string_step, kept_step, Held, Handed, interrupted, fresh_step, waiting_step, held_step, nothing_held, hand_out, held_of}
 use Rattle.escape_framing.specs.Undecided.{IsUndecided}
-use Rattle.escape_framing.proofs.Existence.Utf8Lemmas.{order, Spelled, in_one, in_two, in_three, in_four, spelled, front_of_one, front_of_two, front_of_three, two, three, scalar_high, some_last}
+use Rattle.escape_framing.proofs.Existence.Utf8Lemmas.{order, Spelled, in_one, in_two, in_three, in_four, spelled, prefix_of_one, prefix_of_two, prefix_of_three, two, three, scalar_high, some_last}
 use Rattle.escape_framing.proofs.FirstLemmas.{first_control}
 use Rattle.escape_framing.proofs.HeldLemmas.{Inner, inner, interrupted_character, c2_begins, At, at_rest, at_c2, unfinished, at_all, newly_handed, not_lead}
 use Rattle.escape_framing.proofs.WaitingLemmas.{escape_cut, control_sequence_cut, header_cut}
@@ -19,11 +19,11 @@ use Rattle.std.proofs.lemmas.Bool.{ne_eqb}
 use Rattle.escape_framing.proofs.TextLemmas.{whole_step, begun_step, lead_kept}
 
 -- how two dispatches differ: CAN and SUB, two characters, two bytes of data, or the end of data and a byte of it
-pub data AreApart (first second : Dispatch) : Type 0 where
-  stops : first ≡ Control 0x18 → second ≡ Control 0x1A → AreApart first second
-  prints : (a b : ℕ) → first ≡ Print a → second ≡ Print b → a ≢ b → AreApart first second
-  data_bytes : (a b : ℕ) → first ≡ Data a → second ≡ Data b → a ≢ b → AreApart first second
-  goes_on : (b : ℕ) → first ≡ Exit → second ≡ Data b → AreApart first second
+pub data AreSeparate (first second : Dispatch) : Type 0 where
+  stops : first ≡ Control 0x18 → second ≡ Control 0x1A → AreSeparate first second
+  prints : (a b : ℕ) → first ≡ Print a → second ≡ Print b → a ≢ b → AreSeparate first second
+  data_bytes : (a b : ℕ) → first ≡ Data a → second ≡ Data b → a ≢ b → AreSeparate first second
+  goes_on : (b : ℕ) → first ≡ Exit → second ≡ Data b → AreSeparate first second
 
 -- two ways to go on from what is held
 pub record Differs (h : Held) : Type 0 where
@@ -35,7 +35,7 @@ pub record Differs (h : Held) : Type 0 where
   pub after_second : List Dispatch
   pub gives_first : (hand_out h one).dispatches ≡ first ∷ after_first
   pub gives_second : (hand_out h other).dispatches ≡ second ∷ after_second
-  pub apart : AreApart first second
+  pub separate : AreSeparate first second
 
 abbrev at_rest_with : Kept → Held
 at_rest_with kept = record { kept = kept; waiting = false }
@@ -72,7 +72,7 @@ record Cancels (kept : Kept) : Type 0 where
   at_cancel : kept_step kept 0x18 ≡ character_step [] 0x18
   at_substitute : kept_step kept 0x1A ≡ character_step [] 0x1A
 
-differ : (first second : Dispatch) → AreApart first second → first ≢ second
+differ : (first second : Dispatch) → AreSeparate first second → first ≢ second
 differ first second (stops e f) h = not_alike 0x18 0x1A (λ k. absurd (omega arith)) (sym e ∙ h ∙ f)
   where
     not_alike : (a b : ℕ) → a ≢ b → Control a ≡ Control b → ⊥
@@ -81,8 +81,8 @@ differ first second (prints a b e f n) h = n (let k : a ≡ b = cc in k)
 differ first second (data_bytes a b e f n) h = n (let k : a ≡ b = cc in k)
 differ first second (goes_on b e f) h = cc
 
-stops_apart : (h : Held) (xs ys : List Dispatch) → (hand_out h (0x18 ∷ [])).dispatches ≡ Control 0x18 ∷ xs → (hand_out h (0x1A ∷ [])).dispatches ≡ Control 0x1A ∷ ys → Differs h
-stops_apart h xs ys e f = record {
+stops_separate : (h : Held) (xs ys : List Dispatch) → (hand_out h (0x18 ∷ [])).dispatches ≡ Control 0x18 ∷ xs → (hand_out h (0x1A ∷ [])).dispatches ≡ Control 0x1A ∷ ys → Differs h
+stops_separate h xs ys e f = record {
   one = 0x18 ∷ [];
   other = 0x1A ∷ [];
   first = Control 0x18;
@@ -91,11 +91,11 @@ stops_apart h xs ys e f = record {
   after_second = ys;
   gives_first = e;
   gives_second = f;
-  apart = stops refl refl;
+  separate = stops refl refl;
 }
 
 by_cancel : (kept : Kept) → Cancels kept → Differs (at_rest_with kept)
-by_cancel kept c = stops_apart _ _ _ (hand_rest kept 0x18 [] _ refl (c.at_cancel ∙ cancel)) (hand_rest kept 0x1A [] _ refl (c.at_substitute ∙ substitute))
+by_cancel kept c = stops_separate _ _ _ (hand_rest kept 0x18 [] _ refl (c.at_cancel ∙ cancel)) (hand_rest kept 0x1A [] _ refl (c.at_substitute ∙ substitute))
 
 cut_by_cancel : (is_cut 0x18 ≡ true) × (is_cut 0x1A ≡ true) × (is_cut 0xC2 ≡ true)
 unfolding is_cut is_stop
@@ -155,9 +155,9 @@ becomes : (p : List ℕ) → IsBegun p → Becomes p
 becomes p (c, more, s, e, n, m) = by_size (order 0x9F c)
   where
     by_kind : c ≤ 0x9F → Spelled c → Becomes p
-    by_kind l (in_one k h) = absurd (front_of_one c p more (sym h ∙ e) n m)
+    by_kind l (in_one k h) = absurd (prefix_of_one c p more (sym h ∙ e) n m)
     by_kind l (in_two g k h) =
-        let is : p ≡ (192 + c / 64) ∷ [] = front_of_two _ _ p more (sym h ∙ e) n m in
+        let is : p ≡ (192 + c / 64) ∷ [] = prefix_of_two _ _ p more (sym h ∙ e) n m in
         let lead : 192 + c / 64 ≡ 0xC2 = omega arith in
         record {
           c = 0xA9;
@@ -174,7 +174,7 @@ becomes p (c, more, s, e, n, m) = by_size (order 0x9F c)
     beside : 0xFFFD ≡ c → Becomes p
     beside k = ⊎_elim (λ is. record { c = 0xFFFC; more = 0xBF ∷ 0xBC ∷ []; scalar = scalar_high 0xFFFC (omega arith) (omega arith); high = omega arith; other = λ h. absurd (omega arith); is = spelled_so ∙ ap (λ l. l ++ 0xBF ∷ 0xBC ∷ []) (sym is); some = λ h. cc })
         (λ is. record { c = 0xFFFC; more = 0xBC ∷ []; scalar = scalar_high 0xFFFC (omega arith) (omega arith); high = omega arith; other = λ h. absurd (omega arith); is = spelled_so ∙ ap (λ l. l ++ 0xBC ∷ []) (sym is); some = λ h. cc })
-        (front_of_three 0xEF 0xBF 0xBD p more (sym (ap encode (sym k) ∙ three 0xFFFD (omega arith) (omega arith)) ∙ e) n m)
+        (prefix_of_three 0xEF 0xBF 0xBD p more (sym (ap encode (sym k) ∙ three 0xFFFD (omega arith) (omega arith)) ∙ e) n m)
       where
         spelled_so : encode 0xFFFC ≡ 0xEF ∷ 0xBF ∷ 0xBC ∷ []
         spelled_so = three 0xFFFC (omega arith) (omega arith)
@@ -209,7 +209,7 @@ begun_differs x p g =
       after_second = _;
       gives_first = completes k.more (x ∷ p) k.c (inr g) (λ h. cc) k.some k.scalar k.high k.is;
       gives_second = hand_rest (InCharacter (x ∷ p)) 0x18 [] _ refl (broken_by x p 0x18 g low ∙ ap (before (Print 0xFFFD ∷ [])) cancel);
-      apart = prints k.c 0xFFFD refl refl k.other;
+      separate = prints k.c 0xFFFD refl refl k.other;
     }
 
 -- ---- all that can be held
@@ -231,7 +231,7 @@ rest_differs (OpenDevice o header f body) g = record {
   after_second = _;
   gives_first = hand_rest InDevice 0x61 [] _ refl (device_data 0x61 no_stops.0);
   gives_second = hand_rest InDevice 0x62 [] _ refl (device_data 0x62 no_stops.1);
-  apart = data_bytes 0x61 0x62 refl refl (λ k. absurd (omega arith));
+  separate = data_bytes 0x61 0x62 refl refl (λ k. absurd (omega arith));
 }
 rest_differs (OpenString o x body) g = by_cancel _ string_cancel
 
@@ -246,11 +246,11 @@ lead_differs kept e = record {
   after_second = _;
   gives_first = hand_c2 kept 0xA9 _ _ refl refl e (whole_step 0xA9 0xA9 (0xC2 ∷ []) (low_scalar 0xA9 (omega arith)) (inr (omega arith)) (two 0xA9 (omega arith) (omega arith)) (inr c2_begins));
   gives_second = hand_c2 kept 0x18 _ _ refl refl e (broken_by 0xC2 [] 0x18 c2_begins low ∙ ap (before (Print 0xFFFD ∷ [])) cancel);
-  apart = prints 0xA9 0xFFFD refl refl (λ k. absurd (omega arith));
+  separate = prints 0xA9 0xFFFD refl refl (λ k. absurd (omega arith));
 }
 
 cancelled_c2 : (kept after_c2 : Kept) → kept_step kept 0xC2 ≡ steps [] after_c2 → Cancels after_c2 → Differs (at_c2_with kept)
-cancelled_c2 kept after_c2 e c = stops_apart _ _ _ (hand_c2 kept 0x18 _ _ refl refl e (c.at_cancel ∙ cancel)) (hand_c2 kept 0x1A _ _ refl refl e (c.at_substitute ∙ substitute))
+cancelled_c2 kept after_c2 e c = stops_separate _ _ _ (hand_c2 kept 0x18 _ _ refl refl e (c.at_cancel ∙ cancel)) (hand_c2 kept 0x1A _ _ refl refl e (c.at_substitute ∙ substitute))
 
 c2_differs : (t : Tail) → IsUnfinished t → Differs (at_c2_with (interrupted (kept_of t)).kept)
 c2_differs (Begun []) g = lead_differs (InCharacter []) lead_kept
@@ -268,7 +268,7 @@ c2_differs (OpenDevice o header f body) g = record {
   after_second = _;
   gives_first = hand_pair InDevice 0x9C refl ∙ ap (λ ds. (ds ++ (kept_step (kept_step InDevice 0x1B).kept 0x5C).dispatches) ++ []) device_escape;
   gives_second = hand_c2 InDevice 0x61 _ _ refl refl (device_data 0xC2 no_stops.2) (device_data 0x61 no_stops.0);
-  apart = goes_on 0xC2 refl refl;
+  separate = goes_on 0xC2 refl refl;
 }
 c2_differs (OpenString o x body) g = cancelled_c2 _ InString (unfold string_step is_stop in refl) string_cancel
 
@@ -296,5 +296,5 @@ undecided stream =
       after_second = d.after_second;
       gives_first = newly_handed stream d.one ∙ d.gives_first;
       gives_second = newly_handed stream d.other ∙ d.gives_second;
-      differ = differ d.first d.second d.apart;
+      differ = differ d.first d.second d.separate;
     }

@@ -7,7 +7,7 @@ use Rattle.csi_codec.specs.Tokens.{is_parameter}
 unfoldable pub is_stop : ℕ → Bool
 is_stop b = b == 0x18 || b == 0x1A || b == 0x1B
 
--- a control that stands within a sequence and leaves it open
+-- a control that can be within a sequence and leaves it open
 unfoldable pub is_embedded : ℕ → Bool
 is_embedded b = is_ascii_control b && not (is_stop b)
 

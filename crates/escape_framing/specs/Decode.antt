@@ -29,7 +29,7 @@ ends_before segment first = record { segments = segment ∷ first.segments; tail
 
 -- ---- Characters
 
--- a character by itself; a C1 control stands in no seven-bit form
+-- a character by itself; no seven-bit form holds a C1 control
 abbrev pub segment_of : List ℕ → ℕ → Segment
 segment_of bytes c =
     if in_c1 c then IllFormed bytes

@@ -58,7 +58,7 @@ decided_of (OpenDevice opening header final body) =
     controls_in opening ++ Enter (taken header) final ∷ map Data (settled body)
 decided_of (OpenString opening opener body) = controls_in opening
 
--- what a segment hands out: U+FFFD stands for a piece that is ill-formed
+-- the dispatches of a segment: U+FFFD for an ill-formed one
 abbrev pub dispatches_of : Segment → List Dispatch
 dispatches_of (segment.Character c) = Print c ∷ []
 dispatches_of (segment.IllFormed bytes) = Print 0xFFFD ∷ []

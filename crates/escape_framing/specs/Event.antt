@@ -27,19 +27,19 @@ abbrev pub handed_out : Lending → Option Event → List stream.Dispatch
 handed_out l None = []
 handed_out l (Some e) = dispatch_in l e ∷ []
 
--- what a byte of the seven-bit form does where it hands these out and this is kept then: where it is left unread, it is
--- still to do what it does after that
+-- the step of a byte of the seven-bit form that hands out `ds` and leaves `kept`; a byte left unread then takes its own
+-- step from there
 abbrev pub resumed : List stream.Dispatch → Kept → Bool → ℕ → Step
 resumed ds kept true b = steps ds kept
 resumed ds kept false b = before ds (kept_step kept b)
 
--- a byte of the stream likewise
+-- the step of a byte of the stream that hands out `ds` and leaves `held`
 abbrev pub held_resumed : List stream.Dispatch → Held → Bool → ℕ → Handed
 held_resumed ds held true b = record { dispatches = ds; held = held }
 held_resumed ds held false b =
     let rest = held_step held b in record { dispatches = ds ++ rest.dispatches; held = rest.held }
 
--- no text lends the character of such an event
+-- no text lends the character of the event
 abbrev pub IsAlone : Option Event → Type 0
 IsAlone None = Unit {0}
 IsAlone (Some (Print c)) = c ≡ 0xFFFD

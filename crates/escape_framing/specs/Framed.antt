@@ -1,4 +1,4 @@
--- What the bytes of one call hand out: texts, which are lent from them, and dispatches by themselves.
+-- The items that the bytes of one call hand out: texts, which are lent from the bytes, and single dispatches.
 use Rattle.std.specs.Prelude.{◌≡◌, ◌≢◌, ◌≤◌, ◌<◌, ℕ, ◌+◌, ◌-◌, Bool, true, false, not, ◌&&◌, ◌||◌, nat_le, ◌==◌, List}
 use Rattle.std.specs.Prelude.{[], ◌∷◌, ◌++◌, length, map, take, drop, encode_utf8, encode_utf8_all, if◌then◌else◌}
 use Rattle.std.specs.Char.{IsScalar}
@@ -13,8 +13,8 @@ pub data Framed : Type 0 where
   Text : ℕ → List ℕ → Framed
   Single : Dispatch → Framed
 
--- A character is lent where all its bytes follow the start of the call. U+FFFD never is, since it also stands for
--- bytes that are ill-formed.
+-- A character is lent where all its bytes follow the start of the call. U+FFFD never is, since it also replaces bytes
+-- that are ill-formed.
 abbrev pub is_lent : ℕ → ℕ → ℕ → Bool
 is_lent start offset c = not (c == 0xFFFD) && nat_le (start + length (encode_utf8 c)) offset
 
@@ -42,20 +42,20 @@ put_dispatch start offset (Enter header final) rest = Single (Enter header final
 put_dispatch start offset (Data b) rest = Single (Data b) ∷ rest
 put_dispatch start offset Exit rest = Single Exit ∷ rest
 
--- placed dispatches of a call whose bytes begin after the start: characters that stand side by side are one text
+-- the items of the placed dispatches of a call whose bytes begin at `start`: adjacent characters are one text
 abbrev pub framed : ℕ → List (ℕ × Dispatch) → List Framed
 framed start [] = []
 framed start (p ∷ placed) = put_dispatch start p.0 p.1 (framed start placed)
 
 -- dispatches at one position
-abbrev pub at_place : ℕ → List Dispatch → List (ℕ × Dispatch)
-at_place offset dispatches = map (λ d. (offset, d)) dispatches
+abbrev pub at_offset : ℕ → List Dispatch → List (ℕ × Dispatch)
+at_offset offset dispatches = map (λ d. (offset, d)) dispatches
 
--- the placed dispatches of bytes, after so many others of which this is held
+-- the placed dispatches of bytes, after `count` bytes of which `held` is held
 unfoldable pub placed_after : ℕ → Held → List ℕ → List (ℕ × Dispatch)
 placed_after count held [] = []
 placed_after count held (b ∷ bytes) =
-    let first = held_step held b in at_place (count + 1) first.dispatches ++ placed_after (count + 1) first.held bytes
+    let first = held_step held b in at_offset (count + 1) first.dispatches ++ placed_after (count + 1) first.held bytes
 
 -- a C2, where it waits
 abbrev pub lead_in : Bool → List ℕ
@@ -79,7 +79,7 @@ kept_takes (InHeader header) waiting b = waiting || nat_le 0x80 b
 kept_takes InDevice waiting b = false
 kept_takes InString waiting b = false
 
--- what bytes hand out after so many others, of which this is held, in a call whose bytes begin after the start
+-- the items of bytes after `count` others, of which `held` is held, in a call whose bytes begin at `start`
 abbrev pub framed_after : ℕ → ℕ → Held → List ℕ → List Framed
 framed_after start count held bytes = framed start (placed_after count held bytes)
 
@@ -87,12 +87,12 @@ framed_after start count held bytes = framed start (placed_after count held byte
 abbrev pub IsLendable : ℕ → Type 0
 IsLendable c = IsScalar c × IsPrintable c × (c ≢ 0xFFFD)
 
--- such characters, one after the other
+-- lendable characters, one after the other
 pub data IsText : List ℕ → Type 0 where
   no_text : IsText []
   text_of : (c : ℕ) (more : List ℕ) → IsLendable c → IsText more → IsText (encode_utf8 c ++ more)
 
--- no such character stands at the start
+-- no lendable character is at the start
 pub record BeginsNoText (bytes : List ℕ) : Type 0 where
   pub none : (c : ℕ) (more : List ℕ) → IsLendable c → bytes ≢ encode_utf8 c ++ more
 
@@ -109,8 +109,8 @@ pub record IsCarried (start count : ℕ) (held : Held) (rest : List ℕ) : Type 
 abbrev pub IsReached : Held → Type 0
 IsReached held = (stream : List ℕ) × (held ≡ held_of stream)
 
--- After what is held, the bytes hand out these first, and then what the bytes after so many of them do after what is
--- held now: in each call that began where those before have been read.
+-- After `held`, the bytes first hand out `items`, and then the items of the bytes after the first n of them, which
+-- follow `after`: in each call that began where those before have been read.
 pub record Frames (count : ℕ) (held : Held) (bytes : List ℕ) (items : ℕ → List Framed) (n : ℕ) (after : Held) : Type 0
   where
     pub within : n ≤ length bytes
@@ -123,19 +123,19 @@ pub record Frames (count : ℕ) (held : Held) (bytes : List ℕ) (items : ℕ �
 
 -- ---- how texts are found
 
--- so many bytes are the character at the start, which can be lent; 0 where none is
+-- the first n bytes are the character at the start, which is lendable; n is 0 where there is none
 pub record IsCharacterLen (bytes : List ℕ) (n : ℕ) : Type 0 where
   pub none : n ≡ 0 → BeginsNoText bytes
   pub some : 0 < n
       → (c : ℕ) × (more : List ℕ) × IsLendable c × (bytes ≡ encode_utf8 c ++ more) × (length (encode_utf8 c) ≡ n)
 
--- so many bytes are a text at the start; 0 only where none can stand there
+-- the first n bytes are a text; n is 0 only where no text can begin there
 pub record IsRunLen (bytes : List ℕ) (n : ℕ) : Type 0 where
   pub none : n ≡ 0 → BeginsNoText bytes
   pub text : IsText (take n bytes)
   pub within : n ≤ length bytes
 
--- so many bytes are a text, and no text follows them
+-- the first n bytes are a text, and no text follows them
 pub record IsTextLen (bytes : List ℕ) (n : ℕ) : Type 0 where
   pub within : n ≤ length bytes
   pub text : IsText (take n bytes)
@@ -156,10 +156,11 @@ pub data Spells : List Framed → List Dispatch → Type 0 where
       → text ≡ encode_utf8_all (c ∷ cs) → all ≡ map Print (c ∷ cs) ++ ds → Spells items ds
       → Spells (Text from text ∷ items) all
 
--- where two texts stand side by side, other bytes lie between them
-abbrev pub AreApart : List Framed → Type 0
-AreApart [] = Unit {0}
-AreApart (Single d ∷ items) = AreApart items
-AreApart (Text from text ∷ []) = Unit {0}
-AreApart (Text from text ∷ Single d ∷ items) = AreApart items
-AreApart (Text from text ∷ Text next more ∷ items) = (next ≢ from + length text) × AreApart (Text next more ∷ items)
+-- other bytes lie between two adjacent texts
+abbrev pub AreSeparate : List Framed → Type 0
+AreSeparate [] = Unit {0}
+AreSeparate (Single d ∷ items) = AreSeparate items
+AreSeparate (Text from text ∷ []) = Unit {0}
+AreSeparate (Text from text ∷ Single d ∷ items) = AreSeparate items
+AreSeparate (Text from text ∷ Text next more ∷ items) =
+    (next ≢ from + length text) × AreSeparate (Text next more ∷ items)

@@ -3,8 +3,8 @@ use Rattle.std.specs.Prelude.{ℕ, List}
 use Rattle.csi_codec.specs.Tokens.{Parameters}
 use Rattle.escape_framing.specs.Held.{Held}
 
--- what is held of the stream, and what is lent: the parameters of the last control sequence, and the last body of a
--- command or header of a device control string, or what there is of one
+-- the held state of the stream, and what a framer lends: the parameters of the last control sequence, and the last body
+-- of a command or header of a device control string, or what there is of one
 pub record Lending : Type 0 where
   pub held : Held
   pub parameters : Parameters

@@ -8,7 +8,7 @@ pub record IsOpen (bytes : List ℕ) : Type 0 where
   pub unfinished : IsUnfinished tail
   pub is : bytes_of_tail tail ≡ bytes
 
--- a segment that may stand before something has more bytes, and these are its first
+-- a segment that may come before some bytes has more bytes, and these are its first
 pub record IsLengthened (bytes : List ℕ) : Type 0 where
   pub segment : Segment
   pub more : List ℕ

@@ -6,9 +6,9 @@ use Rattle.escape_framing.specs.Cut.{dispatches, newly_decided}
 
 -- The first bytes of the stream, as many as the position says, decide the dispatch at the index, and fewer don't.
 pub record IsPlaced (stream : List ℕ) (index offset : ℕ) (dispatch : Dispatch) : Type 0 where
-  -- the stream has so many bytes
+  -- the stream has at least `offset` bytes
   pub within : offset ≤ length stream
-  -- however the stream goes on after so many bytes, this dispatch is at the index
+  -- however the stream goes on after `offset` bytes, this dispatch is at the index
   pub decided : (more : List ℕ) → slice_get (dispatches (take offset stream ++ more)) index ≡ Some dispatch
   -- after fewer bytes the stream can go on so that it is not
   pub least : (fewer : ℕ) → fewer < offset

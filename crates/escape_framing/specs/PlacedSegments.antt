@@ -3,7 +3,7 @@ use Rattle.std.specs.Prelude.{ℕ, ◌+◌, ◌≤◌, List, [], ◌∷◌, leng
 use Rattle.escape_framing.specs.Segment.{Segment, bytes_of}
 use Rattle.escape_framing.specs.Cut.{the_cut}
 
--- segments after so many bytes, each with the count of the bytes before it
+-- segments after `count` bytes, each with the count of the bytes before it
 abbrev pub segments_from : ℕ → List Segment → List (ℕ × Segment)
 segments_from count [] = []
 segments_from count (segment ∷ segments) = (count, segment) ∷ segments_from (count + length (bytes_of segment)) segments

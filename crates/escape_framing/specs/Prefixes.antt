@@ -1,17 +1,17 @@
--- What stands at the start of some bytes.
+-- Prefixes of bytes.
 use Rattle.std.specs.Prelude.{◌≡◌, ℕ, Bool, true, not, ◌&&◌, ◌==◌, List, ◌∷◌, drop, Option, Some, None}
 use Rattle.std.specs.Char.{is_ascii_control}
 use Rattle.escape_framing.specs.Bytes.{is_stop, is_final}
 
--- a final byte follows so many bytes, or the end or another byte does
+-- the final byte that follows the first `count` bytes; `None` tells nothing of what follows
 abbrev pub IsLastAt : List ℕ → ℕ → Option ℕ → Type 0
 IsLastAt bytes count None = Unit {0}
 IsLastAt bytes count (Some b) = (is_final b ≡ true) × ((rest : List ℕ) × (drop count bytes ≡ b ∷ rest))
 
--- a byte of the body of a command that stands for itself: no control, and no C2, which may be half of one
+-- a literal byte of the body of a command: no control, and no C2, which may be half of one
 unfoldable pub is_body_byte : ℕ → Bool
 is_body_byte b = not (is_ascii_control b) && not (b == 0xC2)
 
--- a byte of a string that does nothing, likewise: none that ends the string, and no C2
+-- a literal byte of a string that does nothing: none that ends the string, and no C2
 abbrev pub is_string_byte : ℕ → Bool
 is_string_byte b = not (is_stop b) && not (b == 0xC2)

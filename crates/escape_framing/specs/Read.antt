@@ -17,20 +17,20 @@ abbrev pub text_of : Read → ℕ
 text_of (read.Text n) = n
 text_of (read.Bytes event n) = 0
 
--- the text that was read of the bytes after so many, or the event, with what is lent
+-- the text that was read, which begins at offset `from`, or the event, with what is lent
 abbrev pub items_of : Lending → Read → List ℕ → ℕ → List Framed
 items_of l (read.Text n) bytes from = Text from (take n bytes) ∷ []
 items_of l (read.Bytes event n) bytes from = map Single (handed_out l event)
 
--- a control sequence of so many bytes, by its final byte
+-- a control sequence of n bytes, by its final byte
 abbrev pub whole_sequence : ℕ → ℕ → Read
 whole_sequence final n = read.Bytes (Some (event.ControlSequence final)) n
 
--- an operating system command
+-- an operating system command of n bytes
 abbrev pub whole_command : ℕ → Read
 whole_command n = read.Bytes (Some event.OperatingSystemCommand) n
 
--- after so many of some bytes the body of a command or a header is read, which takes memory
+-- after the first n bytes the body of a command or a header is read, which takes memory
 abbrev pub TakesMemoryAt : Held → List ℕ → ℕ → Type 0
 TakesMemoryAt held bytes n = TakesMemory (hand_out held (take n bytes)).held.kept
 
@@ -39,7 +39,7 @@ pub record ReadsEvent (held : Held) (bytes : List ℕ) (r : Read) (after : Lendi
   -- in a call that holds these bytes, with `count` others of it read
   pub frames : (count : ℕ) → IsReached held → IsCarried 0 count held bytes
       → Frames count held bytes (items_of after r bytes) (count_of r) after.held
-  -- so many of the bytes were read, and the text is one of them
+  -- at most all of the bytes were read, and those read as a text are one
   pub within : count_of r ≤ length bytes
   pub text : IsText (take (text_of r) bytes)
   -- where none of some bytes is read, something was closed for them, which can't go on: the rank is at most 3

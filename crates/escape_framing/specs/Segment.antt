@@ -10,7 +10,7 @@ use Rattle.escape_framing.specs.Bytes.{is_string_opener, is_opener, is_cut, in_e
 -- ---- What is open
 
 -- What a stream can end in: nothing, the first bytes of a character, or a sequence that ESC has begun. The first list
--- of each of the latter is what stands between ESC and the byte that opens it.
+-- of each sequence holds the bytes between ESC and the byte that opens it.
 pub data Tail : Type 0 where
   -- the first bytes of a character, or none
   Begun : List ℕ → Tail
@@ -40,12 +40,12 @@ bytes_of_tail (OpenString opening opener body) = 0x1B ∷ opening ++ opener ∷ 
 abbrev pub BeginsCharacter : List ℕ → Type 0
 BeginsCharacter bytes = (c : ℕ) × (more : List ℕ) × IsScalar c × (encode_utf8 c ≡ bytes ++ more)
 
--- the bytes begin a character, and more are wanted
+-- the bytes are a proper, non-empty prefix of a character
 abbrev pub IsBegun : List ℕ → Type 0
 IsBegun bytes = (c : ℕ) × (more : List ℕ) × IsScalar c × (encode_utf8 c ≡ bytes ++ more) × (bytes ≢ []) × (more ≢ [])
 
--- Nothing, or bytes that some continuation makes a segment of, longer than they are. In a body that CAN, SUB and ESC
--- end (and BEL, of a command), any other byte may stand.
+-- Nothing, or bytes that some continuation makes a segment of, longer than they are. A body that CAN, SUB and ESC end
+-- (and BEL, of a command) may hold any other byte.
 abbrev pub IsUnfinished : Tail → Type 0
 IsUnfinished (Begun bytes) = (bytes ≡ []) ⊎ IsBegun bytes
 IsUnfinished (OpenEscape body) = IsTrue (list_all in_escape body)
@@ -71,7 +71,7 @@ is_before_final _ = false
 
 -- ---- What is whole
 
--- The nine shapes. The first list of a sequence is what stands between ESC and the byte that opens it.
+-- The nine shapes. The first list of a sequence holds the bytes between ESC and the byte that opens it.
 pub data Segment : Type 0 where
   Character : ℕ → Segment
   IllFormed : List ℕ → Segment
@@ -89,7 +89,7 @@ pub data Segment : Type 0 where
   -- what is open before its final byte, and goes no further
   CutOff : Tail → Segment
 
--- the bytes of a segment: of what ends a command BEL belongs to it, the others to the next segment
+-- the bytes of a segment: a BEL that ends a command belongs to it, any other end of one to the next segment
 abbrev pub bytes_of : Segment → List ℕ
 bytes_of (Character c) = encode_utf8 c
 bytes_of (IllFormed bytes) = bytes
@@ -111,7 +111,7 @@ abbrev pub IsControl : ℕ → Type 0
 IsControl b = ((b < 0x20) × (b ≢ 0x1B)) ⊎ (b ≡ 0x7F)
 
 -- The bytes are a maximal subpart of an ill-formed sequence (Unicode, 3.9): one byte that begins no character, or the
--- longest prefix of what stands there that begins one. `String::from_utf8_lossy` writes one U+FFFD for it.
+-- longest prefix of the bytes there that begins one. `String::from_utf8_lossy` writes one U+FFFD for it.
 abbrev pub IsIllFormed : List ℕ → List ℕ → Type 0
 IsIllFormed bytes following =
     ((b : ℕ) × (bytes ≡ b ∷ []) × (BeginsCharacter bytes → ⊥))
@@ -123,7 +123,7 @@ abbrev pub follows : (ℕ → Bool) → List ℕ → Bool
 follows test [] = false
 follows test (b ∷ bytes) = test b
 
--- the segment may stand before what follows
+-- the segment may come before the bytes that follow it
 abbrev pub IsSegment : Segment → List ℕ → Type 0
 IsSegment (Character c) following = IsScalar c × IsPrintable c
 IsSegment (IllFormed bytes) following = IsIllFormed bytes following
@@ -147,7 +147,7 @@ IsSegment (CutOff tail) following =
 
 -- ---- The cut
 
--- each segment may stand before those after it and the tail
+-- each segment may come before those after it and the tail
 abbrev pub StandInRow : List Segment → List ℕ → Type 0
 StandInRow [] tail = Unit {0}
 StandInRow (segment ∷ segments) tail = IsSegment segment (flat_map bytes_of segments ++ tail) × StandInRow segments tail

@@ -2,8 +2,8 @@
 use Rattle.std.specs.Prelude.{ℕ, ◌-◌, List, [], ◌∷◌, if◌then◌else◌}
 use Rattle.text_clusters.specs.Controls.{is_c1}
 
--- Each C1 control is ESC and the byte 40h below. A C2 at the end stands for itself until the byte after it
--- comes, so both bytes of the form come with the second byte of the pair.
+-- Each C1 control is ESC and the byte 40h below. A C2 at the end stays as it is until the byte after it comes, so both
+-- bytes of the form come with the second byte of the pair.
 abbrev pub seven_bit : List ℕ → List ℕ
 seven_bit [] = []
 seven_bit (b ∷ []) = b ∷ []

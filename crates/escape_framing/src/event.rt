@@ -3,7 +3,7 @@
 /// What the bytes of a stream do, before their sequences are read into actions.
 #[derive(Clone, Copy, Debug, PartialEq, Eq)]
 pub enum Event {
-    /// A character; U+FFFD stands for bytes that are ill-formed.
+    /// A character; U+FFFD replaces bytes that are ill-formed.
     Print(char),
     /// A C0 control or DEL, 00h to 1Fh or 7Fh.
     Control(u8),
@@ -29,8 +29,8 @@ pub enum Event {
 /// What a framer has read at the start of some bytes.
 #[derive(Clone, Copy, Debug, PartialEq, Eq)]
 pub enum Read {
-    /// A text of so many bytes.
+    /// A text of this many bytes.
     Text(usize),
-    /// So many bytes, and what they hand out, if anything.
+    /// `count` bytes, and the event that they hand out, if any.
     Bytes { event: Option<Event>, count: usize },
 }

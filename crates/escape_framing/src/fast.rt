@@ -1,5 +1,5 @@
-//! Shortcuts: what stands whole or in a run at the start of the bytes of a call is read at once. A reader may skip
-//! them, since each answers what the general way does, or `None`, which leaves all to it.
+//! Shortcuts: they read a whole sequence or a run at the start of the bytes of a call at once. A reader may skip this
+//! module: each shortcut returns what the general way does, or `None`, which leaves all to the general way.
 ghost use Rattle.std.specs.Prelude.{◌≡◌, ◌∷◌, IfSome};
 
 mod command;

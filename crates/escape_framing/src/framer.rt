@@ -33,7 +33,7 @@ pub struct Framer {
     pub(crate) body: Vec<u8>,
 }
 
-// Clauses see what is held of the stream, and what is lent.
+// Clauses see the held state of the stream, and the parameters and the body that the framer lends.
 impl Model for Framer {
     ghost use Rattle.escape_framing.specs.Lending.{Lending};
 
@@ -81,7 +81,7 @@ impl Framer {
         self.body.as_slice()
     }
 
-    /// Gives back the memory of the last body, which is lent no more.
+    /// Frees the memory of the last body, which the framer no longer lends.
     pub fn release_body(&mut self, alloc: Global)
         ensures held { self.new.held ≡ self.old.held }
         ensures parameters { self.new.parameters ≡ self.old.parameters }
@@ -212,7 +212,7 @@ impl Framer {
         }
     }
 
-    // How many bytes the text at the start has, if one can stand there.
+    // How many bytes the text at the start has; 0 where no text can begin there.
     fn text_at(&self, byte: u8, bytes: &[u8]) -> usize
         ensures text { 0 < result → IsTextLen bytes.now result }
         ensures takes { 0 < result → takes_text self.now.held byte ≡ true }
@@ -233,7 +233,7 @@ impl Framer {
         self.close();
     }
 
-    // Reads a text, before which U+FFFD stands for a character that it breaks: then the text isn't read yet.
+    // Reads a text. Where it breaks off a character that has begun, U+FFFD comes first, and the text isn't read yet.
     fn read_text(&mut self, text: usize) -> Read
         ensures held { self.new.held ≡ nothing_held }
         ensures broken { begun_bytes self.old.held ≢ [] → result ≡ read_as.Bytes (Some (event.Print 0xFFFD)) 0 }

@@ -9,7 +9,7 @@ ghost use Rattle.escape_framing.specs.Cut.{the_cut, tail_of, dispatches, newly_d
 ghost use Rattle.escape_framing.specs.Held.{nothing_held, hand_out, held_of};
 ghost use Rattle.escape_framing.specs.Undecided.{IsUndecided};
 ghost use Rattle.escape_framing.specs.Placed.{IsPlaced, placed_from, placed_dispatches};
-ghost use Rattle.escape_framing.specs.Framed.{Framed, Text, framed, placed_after, Spells, AreApart};
+ghost use Rattle.escape_framing.specs.Framed.{Framed, Text, framed, placed_after, Spells, AreSeparate};
 ghost use Rattle.escape_framing.specs.PlacedSegments.{placed_segments, LiesBetween};
 
 /// A law, which needs no call: each stream has a cut, and no other than the one that is read.
@@ -28,7 +28,7 @@ pub fn open_bytes()
 
 /// A law, which needs no call: the placed dispatches are the stream's dispatches, each with the least count of bytes
 /// that decides it however the stream goes on.
-pub fn places()
+pub fn offsets()
     ensures placed { (stream : List ℕ) (index offset : ℕ) (dispatch : Dispatch)
         → slice_get (placed_dispatches stream) index ≡ Some (offset, dispatch) → IsPlaced stream index offset dispatch }
     ensures all { (stream : List ℕ) → map (λ (p : ℕ × Dispatch). p.1) (placed_dispatches stream) ≡ dispatches stream }
@@ -59,18 +59,18 @@ pub fn idle_streams()
 {}
 
 /// A law, which needs no call: the texts of a call, character by character, and the dispatches between them are its
-/// placed dispatches; no text is empty, and other bytes lie between two that stand side by side.
+/// placed dispatches; no text is empty, and other bytes lie between two adjacent ones.
 pub fn texts_and_dispatches()
     ensures spelled { (start : ℕ) (placed : List (ℕ × Dispatch))
         → Spells (framed start placed) (map (λ (p : ℕ × Dispatch). p.1) placed) }
-    ensures apart { (start : ℕ) (placed : List (ℕ × Dispatch)) → AreApart (framed start placed) }
+    ensures separate { (start : ℕ) (placed : List (ℕ × Dispatch)) → AreSeparate (framed start placed) }
     ensures held { (stream bytes : List ℕ)
         → placed_after (length stream) (held_of stream) bytes ≡ placed_from stream bytes }
 {}
 
-/// A law, which needs no call: the placed segments are those of the cut, in order, and each stands at its place in the
-/// seven-bit form of the stream, which has as many bytes as the stream.
-pub fn segment_places()
+/// A law, which needs no call: the placed segments are those of the cut, in order, and the bytes of each are at its
+/// offset in the seven-bit form of the stream, which has as many bytes as the stream.
+pub fn segment_offsets()
     ensures all { (stream : List ℕ)
         → map (λ (p : ℕ × Segment). p.1) (placed_segments stream) ≡ (the_cut stream).segments }
     ensures placed { (stream : List ℕ) (index offset : ℕ) (segment : Segment)
@@ -79,9 +79,8 @@ pub fn segment_places()
     ensures same_length { (stream : List ℕ) → length (seven_bit stream) ≡ length stream }
 {}
 
-/// A law, which needs no call: where two texts of a call stand side by side, a segment that hands nothing out lies
-/// between them.
-pub fn texts_apart()
+/// A law, which needs no call: between two adjacent texts of a call lies a segment that hands nothing out.
+pub fn texts_separate()
     ensures { (stream bytes : List ℕ) (before after : List Framed) (from next : ℕ) (text more : List ℕ)
         → framed (length stream) (placed_from stream bytes) ≡ before ++ Text from text ∷ Text next more ∷ after
         → (segment : Segment) × LiesBetween (stream ++ bytes) (from + length text) next segment

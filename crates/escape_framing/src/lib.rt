@@ -5,7 +5,7 @@
 //!   one byte, and what a byte does after a C2, which may be half of a C1 control.
 //! - `states`: what a byte of the seven-bit form does, for each thing that can be open.
 //! - `characters`: the first bytes of a character, and the byte after them.
-//! - `texts`, `bodies`: how many bytes at the start are a text, or stand for themselves in a body.
+//! - `texts`, `bodies`: how many bytes at the start are a text, or literal bytes of a body.
 //! - `bytes`: the classes of bytes.
 //! - `fast`: shortcuts past the framer, which a reader may skip.
 //! - `event`, `error`: what is handed out, and what is refused.

@@ -1,4 +1,4 @@
-//! Texts: the characters at the start of some bytes that are lent as they stand.
+//! Texts: the characters at the start of some bytes that the framer lends without a copy.
 ghost use Rattle.std.specs.Prelude.{◌≡◌, ◌≢◌, ◌↔◌, IsTrue, ◌≤◌, length, drop};
 ghost use Rattle.escape_framing.specs.Segment.{IsPrintable};
 ghost use Rattle.escape_framing.specs.Framed.{IsCharacterLen, IsRunLen, IsTextLen};
@@ -6,7 +6,7 @@ ghost use Rattle.escape_framing.specs.Framed.{IsCharacterLen, IsRunLen, IsTextLe
 use bstr::decode_utf8;
 use text_clusters::{is_printable, printable_len};
 
-// Whether a text can hold a character: it is no control, and not U+FFFD, which also stands for ill-formed bytes.
+// Whether a text can hold a character: it is no control, and not U+FFFD, which also replaces ill-formed bytes.
 #[inline(always)]
 fn is_lendable(c: char) -> bool
     ensures { IsTrue result ↔ (IsPrintable c × (c ≢ 0xFFFD)) }
@@ -14,7 +14,7 @@ fn is_lendable(c: char) -> bool
     !c.is_control() && c != '\u{fffd}'
 }
 
-// How many bytes the character at the start has; 0 where none can be lent.
+// How many bytes the character at the start has; 0 where no text can hold it.
 fn character_len(bytes: &[u8]) -> usize
     ensures { IsCharacterLen bytes.now result }
 {
@@ -24,7 +24,7 @@ fn character_len(bytes: &[u8]) -> usize
     }
 }
 
-// How many bytes the printable ASCII characters at the start have, or the character there; 0 where none can be lent.
+// How many bytes the printable ASCII characters at the start have, or the character there; 0 where no text can hold it.
 fn run_len(bytes: &[u8]) -> usize
     ensures { IsRunLen bytes.now result }
 {
@@ -34,7 +34,7 @@ fn run_len(bytes: &[u8]) -> usize
     }
 }
 
-/// What follows so many bytes.
+/// The suffix after the first `count` bytes.
 #[inline(always)]
 pub(crate) fn after(bytes: &[u8], count: usize) -> &[u8]
     requires { count ≤ length bytes.now }
@@ -43,7 +43,7 @@ pub(crate) fn after(bytes: &[u8], count: usize) -> &[u8]
     &bytes[count..]
 }
 
-/// How many bytes the text at the start has, of as many characters as can be lent.
+/// How many bytes the longest text at the start has.
 pub(crate) fn text_len(bytes: &[u8]) -> usize
     ensures { IsTextLen bytes.now result }
 {

@@ -51,7 +51,7 @@ letters_bits [] = Some 0
 letters_bits (letter ∷ rest) =
     option_and_then (λ bits. option_map (λ more. bit_or bits more) (letters_bits rest)) (letter_bits letter)
 
--- what no letter at all stands for: SELECT and CUT0
+-- the selection of an empty list of letters: SELECT and CUT0
 abbrev pub default_selection : ℕ
 default_selection = 2 ^ 3 + 2 ^ 4
 

@@ -21,7 +21,7 @@ shown_part p = utf8_lossy p.0.now
 abbrev pub shown_parts : LossyParts → List ℕ
 shown_parts p = joined (map utf8_lossy (map (λ part. part.items) p.0.now))
 
--- what stands in place of bytes that are no UTF-8
+-- the replacement of bytes that are no UTF-8; nothing for no bytes
 abbrev pub replacement_of : List ℕ → List ℕ
 replacement_of [] = []
 replacement_of (b ∷ rest) = replacement_bytes

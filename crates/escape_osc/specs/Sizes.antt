@@ -23,8 +23,7 @@ LinksTakeSeven =
 abbrev pub EndOfLinkTakesSeven : Type 0
 EndOfLinkTakesSeven = length (text_of (set_hyperlink None)) ≡ 7
 
--- how many symbols of base64 a text of so many bytes takes: four for each three, also for those at the end that are
--- fewer
+-- how many symbols of base64 a text of `count` bytes takes: four for each three bytes, also for one or two at the end
 abbrev pub base64_length : ℕ → ℕ
 base64_length count = (count + 2) / 3 * 4
 

@@ -59,7 +59,7 @@ HasSpelling (query_selection bits) = IsSelection bits
 HasSpelling (clear_selection bits) = IsSelection bits
 HasSpelling (unspecified parts) = (parts_of (joined parts) ≡ parts) × (fitting_reading parts ≡ None)
 
--- such a command whose body holds no control
+-- a command that has a spelling and whose body holds no control
 pub record IsWritable (command : Command) : Type 0 where
   pub spelling : HasSpelling command
   pub clean : LacksControls (body_of command)

@@ -14,7 +14,7 @@ use cell_base::Hyperlink;
 use std::alloc::AllocError;
 use std::fmt;
 
-// What stands between ESC ] and ESC \, by its form.
+// The bytes between ESC ] and ESC \, by form.
 #[derive(Clone, Copy)]
 pub(crate) enum Body<'a> {
     // A code with its `;`, and a text after it.

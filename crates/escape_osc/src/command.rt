@@ -28,7 +28,7 @@ pub enum OperatingSystemCommand {
     QuerySelection(Selection),
     /// OSC 52 with nothing after its letters: clears selections.
     ClearSelection(Selection),
-    /// Any other command, by the parts of its body, which stand between its `;`.
+    /// Any other command, by the parts of its body, which `;` separates.
     Unspecified(Vec<Vec<u8>>),
 }
 

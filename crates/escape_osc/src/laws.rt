@@ -54,9 +54,10 @@ pub fn text_reads_back(text: &str)
     let _ = text;
 }
 
-/// The bytes of a command beside what it carries: six beside a title, the name of an icon or a directory, seven beside
-/// the parameters and the URI of a link, and seven of the end of a link. What asks for selections takes at most 22,
-/// what clears them 20, and what sets them 21 beside the base64 of its text; so many where all thirteen are named.
+/// The bytes of a command besides its payload: six besides a title, the name of an icon or a directory, seven besides
+/// the parameters and the URI of a link, and seven for the end of a link. A query of selections takes at most 22, a
+/// command that clears them 20, and one that sets them 21 besides the base64 of its text; exactly that many where the
+/// command names all thirteen.
 pub fn text_lengths()
     ensures texts { (text : List ℕ) → TextsTakeSix text }
     ensures links { LinksTakeSeven }

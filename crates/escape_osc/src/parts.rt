@@ -7,7 +7,7 @@ use std::alloc::{AllocError, Global};
 use std::convert::AsSlice;
 use text_clusters::holds_c1;
 
-// Whether a control from U+0080 to U+009F stands in some part.
+// Whether some part holds a control from U+0080 to U+009F.
 #[tactic(auto, using(crate::proofs::PartsLemmas::any_c1_next, crate::proofs::PartsLemmas::any_c1_end))]
 pub(crate) fn any_holds_c1(parts: &[&[u8]]) -> bool
     ensures { result ≡ any_holds_c1 (map (λ p. p.now) parts.now) }

@@ -79,7 +79,7 @@ impl fmt::Display for LossyPart<'_> {
     }
 }
 
-// Such parts, joined by `;`.
+// Parts, each shown as a `LossyPart`, joined by `;`.
 #[derive(Clone, Copy)]
 pub(crate) struct LossyParts<'a>(pub(crate) &'a [Vec<u8>]);
 

@@ -248,15 +248,15 @@ on_refusal (Ok value) it asks = tt
 on_refusal (Err error) it asks = asks
 
 -- for a body that is read on
-at_front : (held : Held) (bytes : List ℕ) → TakesMemory held.kept → TakesMemoryAt held bytes 0
+at_prefix : (held : Held) (bytes : List ℕ) → TakesMemory held.kept → TakesMemoryAt held bytes 0
 unfolding hand_out
-at_front held bytes t = t
+at_prefix held bytes t = t
 
 pub asks_body : (it : Pieces) → IsUnderWay it → TakesMemory it.parser.now.held.kept → AsksMemory it
 asks_body it u t =
     let z : 0 ≡ it.count - it.count = omega arith in
     let bytes = drop it.count it.bytes.now in
-    inl (it.count, record { after = omega arith; within = u.within; takes = subst (TakesMemoryAt it.parser.now.held bytes) z (at_front it.parser.now.held bytes t) })
+    inl (it.count, record { after = omega arith; within = u.within; takes = subst (TakesMemoryAt it.parser.now.held bytes) z (at_prefix it.parser.now.held bytes t) })
 
 -- for the action of an event
 pub asks_event : (old new : Pieces) (n : ℕ) (l : Lending) (e : Event) → HasRead old (read.Bytes (Some e) n) l new → FirstTakes (event_actions l e) → AsksMemory old

@@ -2,7 +2,7 @@ mod StreamLemmas
 mod ReadFormLemmas
 pub mod PendingLemmas
 pub mod FirstLemmas
-mod ActionPlaces
+mod ActionOffsets
 mod PlainBytes
 mod TextSegments
 mod PairText
@@ -12,7 +12,7 @@ mod WritableLemmas
 pub mod PieceLemmas
 pub mod AdvanceLemmas
 pub mod SpellLemmas
-mod ApartPieces
+mod SeparatePieces
 pub mod SpokenLemmas
 pub mod JoinLemmas
 pub mod HandLemmas

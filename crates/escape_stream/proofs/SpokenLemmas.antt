@@ -151,9 +151,9 @@ framed_actions start ((n, Data b) ∷ placed) h = single_framed (Data b) (framed
 framed_actions start ((n, Exit) ∷ placed) h = single_framed Exit (framed start placed) ∙ ap (λ (l : List StreamAction). actions_of_dispatch Exit ++ l) (framed_actions start placed h.1)
 
 -- the dispatches of a call, without their places, are those that its bytes newly decide
-at_one_place : (n : ℕ) (ds : List Dispatch) → seconds (map (λ d. (n, d)) ds) ≡ ds
-at_one_place n [] = refl
-at_one_place n (d ∷ ds) = ap (λ (l : List Dispatch). d ∷ l) (at_one_place n ds)
+at_one_offset : (n : ℕ) (ds : List Dispatch) → seconds (map (λ d. (n, d)) ds) ≡ ds
+at_one_offset n [] = refl
+at_one_offset n (d ∷ ds) = ap (λ (l : List Dispatch). d ∷ l) (at_one_offset n ds)
 
 nothing_new : (stream : List ℕ) → newly_decided stream [] ≡ []
 nothing_new stream = ap (λ (s : List ℕ). drop (length (dispatches stream)) (dispatches s)) (append-nil stream) ∙ all_dropped (dispatches stream)
@@ -166,7 +166,7 @@ pub newly_placed : (stream bytes : List ℕ) → seconds (placed_from stream byt
 newly_placed stream [] = sym (nothing_new stream)
 newly_placed stream (b ∷ bytes) =
     map-append (λ (p : ℕ × Dispatch). p.1) (map (λ d. (length stream + 1, d)) (newly_decided stream (b ∷ []))) (placed_from (stream ++ b ∷ []) bytes)
-    ∙ (λ i. at_one_place (length stream + 1) (newly_decided stream (b ∷ [])) i ++ newly_placed (stream ++ b ∷ []) bytes i)
+    ∙ (λ i. at_one_offset (length stream + 1) (newly_decided stream (b ∷ [])) i ++ newly_placed (stream ++ b ∷ []) bytes i)
     ∙ sym (newly_join stream (b ∷ []) bytes)
 
 -- the actions of the pieces of a call

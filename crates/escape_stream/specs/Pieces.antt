@@ -24,8 +24,8 @@ pieces_of_framed (framing.Single d) = map Single (actions_of_dispatch d)
 abbrev pub pieces_of : List Framed → List Piece
 pieces_of items = flat_map pieces_of_framed items
 
--- What a call hands out of these bytes, after a stream: the actions that the bytes decide, where characters that stand
--- side by side, each wholly of these bytes, are a text.
+-- The pieces that a call hands out of these bytes, after a stream: the actions that the bytes decide, where adjacent
+-- characters, each wholly of these bytes, are a text.
 abbrev pub pieces : List ℕ → List ℕ → List Piece
 pieces stream bytes = pieces_of (framed (length stream) (placed_from stream bytes))
 
@@ -46,9 +46,9 @@ pub data Spells : List Piece → List StreamAction → Type 0 where
       → text ≡ encode_utf8_all (c ∷ cs) → all ≡ map print (c ∷ cs) ++ actions → Spells items actions
       → Spells (Text from text ∷ items) all
 
--- wherever two texts stand side by side, a segment of the stream without an action lies between them
-abbrev pub AreApart : List ℕ → List Piece → Type 0
-AreApart stream items =
+-- between two adjacent texts lies a segment of the stream without an action
+abbrev pub AreSeparate : List ℕ → List Piece → Type 0
+AreSeparate stream items =
     (before after : List Piece) (from next : ℕ) (text more : List ℕ)
     → items ≡ before ++ Text from text ∷ Text next more ∷ after
     → (segment : Segment) × LiesBetween stream (from + length text) next segment

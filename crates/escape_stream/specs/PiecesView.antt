@@ -82,12 +82,12 @@ abbrev pub item_handed : PieceCode → Item
 item_handed (code.Text t) = item.Text t.now
 item_handed (code.Action a) = item.Single (value_of a)
 
--- the next piece of some, and what is left of them
+-- the next piece of `before`, and the rest, `after`
 abbrev pub GivesPiece : List Piece → Option PieceCode → List Piece → Type 0
 GivesPiece before None after = before ≡ []
 GivesPiece before (Some p) after = (piece : Piece) × IsPiece piece p × (before ≡ piece ∷ after)
 
--- after so many of the bytes of its call, those that were read among them, the body of a command or a header is read
+-- after `offset` bytes of its call, those already read among them, the body of a command or a header is read
 pub record ReadsBody (it : Pieces) (offset : ℕ) : Type 0 where
   pub after : it.count ≤ offset
   pub within : offset ≤ length it.bytes.now
@@ -116,12 +116,12 @@ pub record GoesOn (old new : Pieces) : Type 0 where
   pub ends : held_at_end new ≡ held_at_end old
   pub bodies : (offset : ℕ) → ReadsBody new offset → ReadsBody old offset
 
--- what stands at the start was found: the next piece, or nothing yet, and then the same is left to hand out
+-- the start of the remaining bytes was read: it gives the next piece, or none yet, and then the same pieces remain
 abbrev pub FindsHere : Pieces → Option PieceCode → Pieces → Type 0
 FindsHere old None new = GoesOn old new
 FindsHere old (Some piece) new = HasGiven old (Some piece) new
 
--- nothing has changed but what is left of a control sequence
+-- only the rest of a control sequence has changed
 pub record SameBut (old new : Pieces) : Type 0 where
   pub same : lender_of new ≡ lender_of old
   pub parser : new.parser.now ≡ old.parser.now
@@ -157,7 +157,7 @@ pub record Begins (old : Pieces) (event : Event) (answer : Result (Option Action
 abbrev pub steps_left : Pieces → ℕ
 steps_left it = 4 * (length it.bytes.now - it.count) + rank it.parser.now.held
 
--- where it stands: its parser had failed before, it is open, or it is over
+-- its stage: its parser had failed before, it is open, or it is over
 abbrev pub HadFailed : Pieces → Type 0
 HadFailed it = it.stage ≡ stage.Failed
 

@@ -48,9 +48,9 @@ placed_actions stream =
 
 -- The first bytes of the stream, as many as the position says, decide the action at the index, and fewer don't.
 pub record IsPlacedAction (stream : List ℕ) (index offset : ℕ) (action : StreamAction) : Type 0 where
-  -- the stream has so many bytes
+  -- the stream has at least `offset` bytes
   pub within : offset ≤ length stream
-  -- however the stream goes on after so many bytes, this action is at the index
+  -- however the stream goes on after `offset` bytes, this action is at the index
   pub decided : (more : List ℕ) → slice_get (stream_actions (take offset stream ++ more)) index ≡ Some action
   -- after fewer bytes the stream can go on so that it is not
   pub least : (fewer : ℕ) → fewer < offset

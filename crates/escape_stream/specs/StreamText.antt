@@ -54,7 +54,7 @@ is_string_terminator (csi a) = false
 abbrev pub text_after : Bool → StreamAction → List ℕ
 text_after closed a = if closed && is_string_terminator a then [] else action_text a
 
--- the bytes of actions after such a one
+-- the bytes of actions after an action that closed a string or did not
 abbrev pub texts_after : Bool → List StreamAction → List ℕ
 texts_after closed [] = []
 texts_after closed (a ∷ remaining) = text_after closed a ++ texts_after (closes_string a) remaining

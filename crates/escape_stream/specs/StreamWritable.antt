@@ -40,7 +40,7 @@ pub record IsReadBack (a : codec.Action) : Type 0 where
   pub whole : prefix.rest ≡ []
   pub action : csi_reading prefix.params prefix.truncated prefix.control ≡ a ∷ []
 
--- the ESC pair is the reading of such bytes
+-- the ESC pair is the reading of bytes that an ESC pair can have
 pub record IsReadPair (e : Esc) : Type 0 where
   pub intermediate : Option ℕ
   pub final : ℕ
@@ -73,8 +73,8 @@ pub record IsDataByte (before byte : ℕ) : Type 0 where
   pub not_escape : byte ≢ 27
   pub not_c1 : is_c1 before byte ≡ false
 
--- actions after the data byte of a device control string, or outside of one: each device control string stands as its
--- opening, its data and its end
+-- actions after the data byte of a device control string, or outside of one: each device control string is its opening,
+-- its data and its end
 abbrev pub IsWritableAfter : Option ℕ → List StreamAction → Type 0
 IsWritableAfter None [] = Unit {0}
 IsWritableAfter None (enter header byte ∷ remaining) = IsOpening header byte × IsWritableAfter (Some byte) remaining
@@ -153,7 +153,7 @@ WritableListsEndOn =
 
 -- ---- Control sequences that were read
 
--- each action reads back by itself, but for what is left of modes where the round trip of parameters leaves it out
+-- each action reads back by itself, except the rest of modes that the round trip of parameters exempts
 abbrev pub EachIsReadBack : List CsiParam → ℕ → List codec.Action → Type 0
 EachIsReadBack ts final [] = Unit {0}
 EachIsReadBack ts final (a ∷ remaining) =
@@ -167,8 +167,8 @@ ReadSequencesAreWritable =
 
 -- ---- Commands that were read
 
--- what is read from a command's body, of which controls are no part, can be written, unless such a control stood within
--- one of C1
+-- the command that is read from a body, from which C0 controls and DEL are dropped, can be written, unless one of these
+-- lay within a C1 control
 abbrev pub ReadCommandsAreWritable : Type 0
 ReadCommandsAreWritable =
     (body : List ℕ) → All (λ b. b < 256) body → holds_c1 (taken body) ≡ false

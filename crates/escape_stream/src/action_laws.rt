@@ -4,13 +4,13 @@ ghost use Rattle.std.specs.List.{slice_get};
 ghost use Rattle.escape_stream.specs.StreamAction.{StreamAction};
 ghost use Rattle.escape_framing.specs.Dispatch.{Dispatch};
 ghost use Rattle.escape_framing.specs.Placed.{placed_from};
-ghost use Rattle.escape_stream.specs.Pieces.{pieces, Spells, actions_of_pieces, AreApart};
+ghost use Rattle.escape_stream.specs.Pieces.{pieces, Spells, actions_of_pieces, AreSeparate};
 ghost use Rattle.escape_stream.specs.StreamActions.{actions_of, stream_actions, newly_decided_actions, placed_actions};
 ghost use Rattle.escape_stream.specs.StreamActions.{IsPlacedAction, IsUndecidedAction};
 
 /// The placed actions are the stream's actions, in order, each with the least count of bytes that decides it however
 /// the stream goes on. Bytes after a stream newly decide the actions whose positions lie in them.
-pub fn action_places()
+pub fn action_offsets()
     ensures placed { (stream : List ℕ) (index offset : ℕ) (action : StreamAction)
         → slice_get (placed_actions stream) index ≡ Some (offset, action) → IsPlacedAction stream index offset action }
     ensures all { (stream : List ℕ)
@@ -35,12 +35,12 @@ pub fn actions_of_pieces_join()
 {}
 
 /// The pieces of a call, their texts character by character, are the actions of the
-/// dispatches that have their places in it, in order, and so those that its bytes newly decide; no text is empty, and
-/// two stand side by side only where a segment of the stream without an action lies between them.
+/// dispatches that have their offsets in it, in order, and so those that its bytes newly decide; no text is empty, and
+/// two are adjacent only where a segment of the stream without an action lies between them.
 pub fn pieces_are_actions()
     ensures placed { (stream bytes : List ℕ)
         → Spells (pieces stream bytes) (actions_of (map (λ (p : ℕ × Dispatch). p.1) (placed_from stream bytes))) }
     ensures decided { (stream bytes : List ℕ)
         → actions_of_pieces (pieces stream bytes) ≡ newly_decided_actions stream bytes }
-    ensures apart { (stream bytes : List ℕ) → AreApart (stream ++ bytes) (pieces stream bytes) }
+    ensures separate { (stream bytes : List ℕ) → AreSeparate (stream ++ bytes) (pieces stream bytes) }
 {}

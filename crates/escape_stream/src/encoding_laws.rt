@@ -4,8 +4,9 @@ ghost use Rattle.escape_stream.specs.StreamWritable.{ReadFormsEncodeAlike, Writa
 ghost use Rattle.escape_stream.specs.StreamWritable.{WritableListsReadBack, WritableListsEndOn, WritableListsReadOn};
 ghost use Rattle.escape_stream.specs.StreamWritable.{ReadSequencesAreWritable, ReadCommandsAreWritable};
 
-/// The bytes of two joined lists of actions are those of the one and then those of the other, unless the first ends in
-/// an operating system command or the end of a device control string, and the second begins with a `StringTerminator`.
+/// The bytes of two joined lists of actions are the bytes of the first and then those of the second, unless the first
+/// ends in an operating system command or the end of a device control string, and the second begins with a
+/// `StringTerminator`.
 pub fn encoded_lists_join()
     ensures { TextsJoin }
 {}
@@ -25,17 +26,17 @@ pub fn writable_lists_read_back()
     ensures whole { WritableListsEndWhole }
 {}
 
-/// After any stream of which no bytes are left unfinished: what the bytes of a writable list decide there, and
-/// what they leave, does not hang on the stream. So a parser that has read such a stream, in any pieces, and then reads
-/// what `encode` wrote hands these out.
+/// After any stream that leaves no bytes unfinished: the actions that the bytes of a writable list decide, and the
+/// state that they leave, do not depend on the stream. So a parser that has read such a stream, in any chunks, and
+/// then reads the output of `encode` hands these actions out.
 pub fn writable_lists_read_on()
     ensures actions { WritableListsReadOn }
     ensures whole { WritableListsEndOn }
 {}
 
 /// The control sequences that a spellable list of at most 256 parameters means, with a final byte from `@` to `~`, can
-/// be written: each is the one action of its own bytes; but for what is left of modes after some that stand, where it
-/// begins with `?` or stands under `s` or `r`.
+/// be written: each is the one action of its own bytes. The exception is the unread rest of modes after at least one
+/// mode, where the rest begins with `?` or the final byte is `s` or `r`.
 pub fn read_sequences_are_writable()
     ensures { ReadSequencesAreWritable }
 {
@@ -44,7 +45,7 @@ pub fn read_sequences_are_writable()
 }
 
 /// The operating system command that is read from a body of a stream can be written. C0 controls and DEL in a body are
-/// dropped; only where one stands within the two bytes of a control of C1 do these come together.
+/// dropped; only where one lies between the two bytes of a C1 control do these two become adjacent.
 pub fn read_commands_are_writable()
     ensures { ReadCommandsAreWritable }
 {}

@@ -55,8 +55,7 @@ impl<'p, 'a> Reading<'p, 'a> {
         }
     }
 
-    // Reads what stands at the start of the bytes that are left, as the framer does: a piece, or bytes that hand
-    // nothing out yet.
+    // Reads the start of the remaining bytes, as the framer does: a piece, or bytes that hand nothing out yet.
     #[inline(always)]
     fn read_event(&mut self) -> Result<Option<Piece<'a>>, AllocError>
         requires going { IsGoing self.old }
@@ -89,7 +88,7 @@ impl<'p, 'a> Reading<'p, 'a> {
         }
     }
 
-    // Reads what stands at the start of the bytes that are left, at once where a shortcut can.
+    // Reads the start of the remaining bytes, by a shortcut where one applies.
     #[inline(always)]
     fn read(&mut self) -> Result<Option<Piece<'a>>, AllocError>
         requires going { IsGoing self.old }

@@ -13,7 +13,7 @@ ghost use Rattle.escape_stream.specs.StreamActions.{named_control};
 use crate::action::Action;
 use crate::control::ControlCode;
 use crate::device::{DeviceControlMode, EnterDeviceControlMode};
-use crate::fast::command_of_few;
+use crate::fast::command_of_short;
 use csi_codec::Esc;
 use escape_framing::Event;
 use escape_osc::OperatingSystemCommand;
@@ -46,7 +46,7 @@ fn command_of_all(alloc: Global, body: &[u8]) -> Result<OperatingSystemCommand, 
 fn command_of_body(alloc: Global, body: &[u8]) -> Result<OperatingSystemCommand, AllocError>
     ensures { IfOk result (λ c. command_of c ≡ osc_reading (parts_of body.now)) }
 {
-    match command_of_few(alloc, body) {
+    match command_of_short(alloc, body) {
         Some(command) => command,
         None => command_of_all(alloc, body),
     }

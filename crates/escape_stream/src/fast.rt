@@ -1,8 +1,8 @@
-//! Shortcuts: a command that stands whole at the start of the bytes that are left is read where it stands, and one of
-//! few parts without a list of them. A reader may skip them, since each finds what the general way does, or answers
-//! `None`, which leaves all to it.
+//! Shortcuts: one reads a command that is whole at the start of the remaining bytes without a copy, the other reads a
+//! command of few parts without a list of them. A reader may skip this module: each shortcut finds what the general
+//! way does, or returns `None`, which leaves all to the general way.
 
 mod command;
 mod parts;
 
-pub(crate) use parts::command_of_few;
+pub(crate) use parts::command_of_short;

@@ -151,9 +151,9 @@ impl Parser {
     }
 
     /// Reads the shortest prefix of the bytes that decides an action after the bytes that were read before and after
-    /// which no segment is unfinished, and answers its actions and its length, 1 or more. Where there is no such
-    /// prefix, all bytes are read, the actions are dropped, and the answer is `None`. A call that was refused memory
-    /// answers `Memory`, and each later call `Failed`, without reading.
+    /// which no segment is unfinished, and returns its actions and its length, 1 or more. Where there is none, it
+    /// reads all bytes, drops the actions and returns `None`. A call that was refused memory returns `Memory`, and
+    /// each later call `Failed`, without reading.
     pub fn parse_first_as_vec(
         &mut self,
         bytes: &[u8],

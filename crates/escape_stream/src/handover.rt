@@ -50,7 +50,7 @@ impl<'p, 'a> Reading<'p, 'a> {
         ensures done { OnOk result (FoldsTo P.does performer.old (items_to_come self.old) performer.new) }
         ensures halted { IfErr result
             (λ halted. HaltsAt P.does P.refuses performer.old (items_to_come self.old) halted performer.new) }
-        // Memory is asked for where it is taken for something.
+        // `Memory` comes only where a body, a header or an action takes memory.
         ensures memory { IsErrOf result Halted.Memory → AsksMemoryLater self.old }
         // All bytes have then been read.
         ensures held { OnOk result (IsOpen self.old → (parser_of self.new).held ≡ held_at_end self.old) }
@@ -92,7 +92,7 @@ impl Parser {
         ensures halted { IfErr result
             (λ halted. (stream : List ℕ) → self.old.held ≡ held_of stream
             → HaltsAt P.does P.refuses performer.old (items stream bytes.now) halted performer.new) }
-        // Memory is asked for where these bytes take some.
+        // `Memory` comes only where these bytes take memory.
         ensures memory { IsErrOf result Halted.Memory → (stream : List ℕ) → self.old.held ≡ held_of stream
             → BytesTakeMemory stream bytes.now }
         // The bytes have then been read too.

@@ -85,7 +85,7 @@ impl Parser {
         self.failed = true;
     }
 
-    // Reads what stands at the start of the bytes, for pieces, whose parser has failed until they end.
+    // Reads the start of the bytes for an iterator of pieces, whose parser counts as failed until the pieces end.
     #[inline(always)]
     pub(crate) fn read(&mut self, bytes: &[u8]) -> Result<Read, AllocError>
         requires { self.old.failed ≡ true }
@@ -96,7 +96,7 @@ impl Parser {
         self.framer.next(bytes)
     }
 
-    // The body of the operating system command that stands whole at the start of the bytes, and how many bytes are read
+    // The body of the operating system command that is whole at the start of the bytes, and how many bytes are read
     // with it.
     #[inline(always)]
     pub(crate) fn whole_command<'b>(&self, bytes: &'b [u8]) -> Option<(&'b [u8], usize)>
@@ -114,8 +114,8 @@ impl Parser {
         command_action(self.alloc, body)
     }
 
-    // The action of an event that was read last, unless it is a control sequence, or a control without a name. The
-    // memory of a body, which was lent for it, is given back.
+    // The action of the last event that was read, unless it is a control sequence, or a control without a name. Frees
+    // the memory of the body that was lent for it.
     pub(crate) fn action_of(&mut self, event: Event) -> Result<Option<Action>, AllocError>
         ensures action { IfOk result (λ action. optional_action action ≡ own_actions (lending_in self.old) event) }
         ensures remaining { self.new ≡ record self.old { body = self.new.body } }
@@ -152,7 +152,7 @@ impl Parser {
         Ok(action)
     }
 
-    // The pieces of a call were taken to their end.
+    // The caller took the pieces of a call to their end.
     pub(crate) fn go_on(&mut self)
         requires { IsReached self.old.held }
         ensures { self.new ≡ record self.old { failed = false } }
@@ -197,9 +197,10 @@ impl Parser {
         ensures pieces { (stream : List ℕ) → self.old.held ≡ held_of stream
             → IsUnderWay result × (open_pieces (length stream) result ≡ pieces stream bytes.now)
             × (held_at_end result ≡ held_of (stream ++ bytes.now)) }
-        // They can be asked for, and end.
+        // The caller can take them, and they end.
         ensures ready { IsReady result }
-        // A parser that had failed tells so; another one is open, and has failed until the end.
+        // The pieces of a parser that had failed report it; others are open, and their parser counts as failed until
+        // they end.
         ensures failed { HadFailed result ↔ (self.old.failed ≡ true) }
         ensures open { IsOpen result ↔ (self.old.failed ≡ false) }
         ensures parser { (parser_of result).failed ≡ true }

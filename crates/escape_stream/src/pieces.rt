@@ -1,4 +1,4 @@
-//! The pieces of a stream: texts, which are lent from the bytes that are fed, and actions.
+//! The pieces of a stream: texts, which are lent from the bytes of the call, and actions.
 ghost use Rattle.std.specs.Prelude.{◌≡◌, ◌+◌, ◌≤◌, length, drop, take};
 ghost use Rattle.escape_framing.specs.Framed.{IsText};
 ghost use Rattle.escape_stream.specs.PiecesView.{IsGoing, lender_of, parser_of, PiecesGo};
@@ -9,11 +9,11 @@ use crate::sequence::Sequence;
 use escape_framing::ParseError;
 use std::str;
 
-/// A piece of what bytes ask for: a text, or an action by itself.
+/// A piece of a stream: a text, or a single action.
 #[derive(Debug, PartialEq, Eq, Drop)]
 pub enum Piece<'a> {
-    /// Characters to print, lent from the bytes that are fed: U+0020 to U+007E and from U+00A0, but U+FFFD. It is never
-    /// empty.
+    /// Characters to print, lent from the bytes of the call: U+0020 to U+007E and from U+00A0, except U+FFFD. It is
+    /// never empty.
     Text(&'a str),
     /// An action: also a print of U+FFFD, or of a character that was begun in an earlier call.
     Action(Action),
@@ -22,14 +22,14 @@ pub enum Piece<'a> {
 /// How far a call has come.
 #[derive(Clone, Copy)]
 pub(crate) enum Stage {
-    /// The parser has failed, which is to be told.
+    /// The parser has failed, which is still to be answered.
     Failed,
     Open,
     Over,
 }
 
-/// The pieces of the bytes of one call, in order. After a refusal, and after the last one, it answers `None`. A parser
-/// has failed unless its pieces are taken to their first `None`.
+/// The pieces of the bytes of one call, in order. After an error, and after the last piece, `next` returns `None`. A
+/// parser counts as failed unless the caller takes its pieces to their first `None`.
 pub type Pieces<'a> = Reading<'a, 'a>;
 
 /// A call's pieces, whose bytes may live longer than the parser is borrowed.
@@ -52,7 +52,7 @@ fn text_of(bytes: &[u8]) -> &str
     unsafe { str::from_utf8_unchecked(bytes) }
 }
 
-/// So many bytes after others.
+/// The `count` bytes from offset `from` on.
 #[inline(always)]
 pub(crate) fn part(bytes: &[u8], from: usize, count: usize) -> &[u8]
     requires { from + count ≤ length bytes.now }
@@ -81,7 +81,7 @@ impl<'p, 'a> Reading<'p, 'a> {
         &bytes[self.count..]
     }
 
-    // The bytes of a text that was read of those after so many.
+    // The text of `len` bytes at offset `count`.
     #[inline(always)]
     pub(crate) fn text_at(&self, count: usize, len: usize) -> &'a str
         requires fits { count + len ≤ length self.now.bytes.now }

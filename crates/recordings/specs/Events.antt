@@ -39,7 +39,7 @@ sized (Some width) (Some height) = Some (Resize width height)
 abbrev pub is_x : ℕ → Bool
 is_x byte = byte == 120
 
--- the size that a text such as 80x24 writes
+-- the size in a text like 80x24
 unfoldable pub resize_of : List ℕ → Option Act
 resize_of text =
     if nat_lt (position_or_len is_x text) (length text)

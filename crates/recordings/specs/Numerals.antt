@@ -16,8 +16,8 @@ number_of digits = number_after 0 digits
 abbrev pub greatest : ℕ
 greatest = 2 ^ 64 - 1
 
--- how many digits of a number of seconds stand before the point of its microseconds: six more than before its own
--- point, which the exponent has moved
+-- how many digits of a number of seconds precede the point of its microseconds: six more than precede its own point,
+-- which the exponent has moved
 abbrev pub micro_point : Parts → ℕ
 micro_point p =
     if p.exponent_negative then length p.whole + 6 - number_of p.exponent else length p.whole + 6 + number_of p.exponent

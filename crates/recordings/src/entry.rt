@@ -45,7 +45,7 @@ pub(crate) fn json_of<'a>(
     }
 }
 
-// The size that a text such as 80x24 writes.
+// The size in a text like 80x24.
 #[tactic(auto, unfolding(crate::specs::Events::resize_of))]
 fn resize_of(text: &str) -> Option<LineAct<'_>>
     ensures { option_map line_act_of result ≡ resize_of text.now }

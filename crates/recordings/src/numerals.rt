@@ -17,7 +17,7 @@ fn with_digits(value: u64, digits: &[u8]) -> u64
     value
 }
 
-// How many digits stand before the point of the microseconds.
+// How many digits precede the point of the microseconds.
 fn micro_point(numeral: &Numeral<'_>) -> u64
     ensures { result ≡ min (micro_point numeral.now) greatest }
 {

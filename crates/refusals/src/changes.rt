@@ -95,9 +95,9 @@ fn sequence_of(alloc: Global) -> Result<Plain, Stop> {
 
 // Whether a sequence is the one of a text alone.
 fn is_unchanged(sequence: &Plain) -> Outcome {
-    let place = sequence.current_cursor_position();
+    let position = sequence.current_cursor_position();
     let copy = sequence.try_clone()?;
-    Ok(place == (1, 1) && sequence.render_height() == 1 && copy.consume().len() == 1)
+    Ok(position == (1, 1) && sequence.render_height() == 1 && copy.consume().len() == 1)
 }
 
 // Changes that are added one by one; a refused one changes nothing.
@@ -131,14 +131,14 @@ pub fn are_equal(changes: &[Change], remaining: &[Change]) -> bool {
 
 // Whether a sequence is that of the text and of the first changes of the list.
 fn has_first(alloc: Global, sequence: Plain) -> Outcome {
-    let place = sequence.current_cursor_position();
+    let position = sequence.current_cursor_position();
     let height = sequence.render_height();
     let changes = sequence.consume();
     let mut other = sequence_of(alloc)?;
     for kind in 0..changes.len().saturating_sub(1) {
         other.add(change_of(alloc, kind)?)?;
     }
-    let is_there = other.current_cursor_position() == place && other.render_height() == height;
+    let is_there = other.current_cursor_position() == position && other.render_height() == height;
     let remaining = other.consume();
     Ok(is_there && changes.len() <= CHANGES && are_equal(&changes, &remaining))
 }
@@ -150,8 +150,8 @@ fn lists(alloc: Global) -> Outcome {
         return refused(Stop::Memory, has_first(alloc, sequence)?);
     }
     let copy = sequence.try_clone()?;
-    let place = sequence.current_cursor_position();
-    Ok(copy.current_cursor_position() == place && copy.consume().len() == 1 + CHANGES)
+    let position = sequence.current_cursor_position();
+    Ok(copy.current_cursor_position() == position && copy.consume().len() == 1 + CHANGES)
 }
 
 // A change that begins as another value.

@@ -1,11 +1,11 @@
 //! Operating system commands, read and written.
-use crate::outcome::{Outcome, Stop};
+use crate::outcome::{Outcome, all};
 use crate::tally::Tally;
 use escape_osc::OperatingSystemCommand;
 use std::alloc::Global;
 use std::io::Write;
 
-// Bodies of commands of each kind, which are written as they stand.
+// Bodies of commands of each kind, which are written as they are.
 const BODIES: [&str; 12] = [
     "0;t",
     "1;t",
@@ -21,23 +21,36 @@ const BODIES: [&str; 12] = [
     "",
 ];
 
+// Whether a command equals its copy.
+fn has_copy(command: &OperatingSystemCommand) -> Outcome {
+    Ok(command.try_clone()? == *command)
+}
+
+// Whether the bytes of a command are this text.
+fn has_bytes(alloc: Global, command: &OperatingSystemCommand, text: &str) -> Outcome {
+    let mut bytes = Vec::new(alloc);
+    command.append_bytes_to(&mut bytes)?;
+    Ok(bytes.as_slice() == text.as_bytes())
+}
+
+// Whether a text is that of the command with this body.
+fn is_text(text: &str, body: &str) -> bool {
+    match text.strip_prefix("\x1b]") {
+        Some(rest) => rest.strip_suffix("\x1b\\") == Some(body),
+        None => false,
+    }
+}
+
 // A command of some parts: its copy, and what is written for it.
 fn is_command(alloc: Global, body: &str) -> Outcome {
     let parts: Vec<&[u8]> = body.as_bytes().split(|byte| *byte == b';').collect(alloc)?;
     let command = OperatingSystemCommand::parse(alloc, &parts)?;
-    let copy = command.try_clone()?;
-    let mut bytes = Vec::new(alloc);
-    command.append_bytes_to(&mut bytes)?;
     let text = command.to_string(alloc)?;
-    let is_same = text.as_bytes() == bytes.as_slice() && copy == command;
-    Ok(is_same && text.as_str().strip_prefix("\x1b]") == Some(body_end(alloc, body)?.as_str()))
-}
-
-// A body with the end of a command after it.
-fn body_end(alloc: Global, body: &str) -> Result<String, Stop> {
-    let mut text = String::from_str(alloc, body)?;
-    text.push_str("\x1b\\")?;
-    Ok(text)
+    all(&[
+        has_copy(&command),
+        has_bytes(alloc, &command, text.as_str()),
+        Ok(is_text(text.as_str(), body)),
+    ])
 }
 
 // Commands of each kind.

@@ -39,24 +39,35 @@ fn short_texts(alloc: Global) -> Outcome {
     Ok(is_made && cell.str() == text && cell.width() == 1)
 }
 
+// Whether a cell is the long text with these attributes.
+fn is_long(cell: &Cell, attrs: &CellAttributes) -> bool {
+    cell.str() == LONG && cell.width() == 2 && cell.attrs() == attrs
+}
+
 // A copy of the first cell of a line, a long text with a link.
 fn is_lent(alloc: Global, line: &Line) -> Outcome {
     let Some(lent) = line.get_cell(0) else {
         return Ok(false);
     };
     match lent.as_cell(alloc) {
-        Ok(copy) => Ok(copy.str() == LONG && copy.width() == 2 && copy.attrs() == lent.attrs()),
+        Ok(copy) => Ok(is_long(&copy, lent.attrs())),
         Err(_) => refused(Stop::Memory, lent.str() == LONG && line.len() == 2),
     }
 }
 
-// Copies of cells that are lent of a line of texts and of one of cells.
-fn lent_cells(alloc: Global) -> Outcome {
+// A copy of a cell that a line of a text lends.
+fn cells_of_texts(alloc: Global) -> Outcome {
     let attrs = linked(alloc, Hyperlink::new(alloc, "u")?)?;
     let line = Line::from_text(alloc, LONG, &attrs, 0, &ProgramWidth)?;
+    is_lent(alloc, &line)
+}
+
+// A copy of a cell that a line of cells lends.
+fn cells_of_lines(alloc: Global) -> Outcome {
+    let attrs = linked(alloc, Hyperlink::new(alloc, "u")?)?;
     let cell = Cell::new_grapheme(alloc, LONG, attrs, &ProgramWidth)?;
-    let cells = Line::with_width_and_cell(alloc, 2, cell, 0)?;
-    Ok(is_lent(alloc, &line)? && is_lent(alloc, &cells)?)
+    let line = Line::with_width_and_cell(alloc, 2, cell, 0)?;
+    is_lent(alloc, &line)
 }
 
 // Copies of a change of each kind.
@@ -71,6 +82,7 @@ pub fn check<W: Write>(alloc: Global, tally: &mut Tally<W>) {
     tally.take("copied attributes", attributes(alloc));
     tally.take("cells that become long texts", long_texts(alloc));
     tally.take("cells that become short texts", short_texts(alloc));
-    tally.take("copies of lent cells", lent_cells(alloc));
+    tally.take("copies of cells of texts", cells_of_texts(alloc));
+    tally.take("copies of cells of lines", cells_of_lines(alloc));
     tally.take("copied changes", changes(alloc));
 }

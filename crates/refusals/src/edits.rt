@@ -1,7 +1,7 @@
 //! Edits of lines: a refused one leaves a lawful line with its number. か takes two columns.
 use crate::cells::{LONG, linked};
 use crate::lines::{is_line, line_of};
-use crate::outcome::{Outcome, Stop, refused};
+use crate::outcome::{Outcome, Stop, all, refused};
 use crate::tally::Tally;
 use cell_base::{Cell, CellAttributes, Hyperlink, ProgramWidth};
 use cell_line::Line;
@@ -64,14 +64,13 @@ fn edit_by_text(line: &mut Line, step: usize) -> Result<(), AllocError> {
     }
 }
 
-// Edits that are given numbers, and the rest.
-fn edit_by_numbers(line: &mut Line, step: usize, other: Line) -> Result<(), AllocError> {
+// Edits that are given numbers, and one that is given nothing.
+fn edit_by_numbers(line: &mut Line, step: usize) -> Result<(), AllocError> {
     match step {
         0 => line.resize(6, NEXT),
         7 => line.erase_cell(0, NEXT),
         8 => line.remove_cell(0, NEXT),
         11 => line.set_last_cell_was_wrapped(true, NEXT),
-        12 => line.append_line(other, NEXT),
         _ => line.compress_for_scrollback(),
     }
 }
@@ -84,7 +83,8 @@ fn edit(alloc: Global, line: &mut Line, step: usize) -> Result<Result<(), AllocE
             edit_by_cell(line, step, cell)
         }
         1 | 4 | 5 | 9 => edit_by_text(line, step),
-        _ => edit_by_numbers(line, step, line_of(alloc, "xyzxyz", NUMBER)?),
+        12 => line.append_line(line_of(alloc, "xyzxyz", NUMBER)?, NEXT),
+        _ => edit_by_numbers(line, step),
     })
 }
 
@@ -93,15 +93,19 @@ fn stands(line: &Line) -> bool {
     is_lawful(line) && line.current_seqno() == NUMBER
 }
 
+// Whether an edit leaves a line of that text.
+fn is_edited(alloc: Global, step: usize, text: &str) -> Outcome {
+    let mut line = line_of(alloc, "a\u{304b}b", NUMBER)?;
+    if edit(alloc, &mut line, step)?.is_err() {
+        return refused(Stop::Memory, stands(&line));
+    }
+    is_line(&line, text, if step == 13 { NUMBER } else { NEXT })
+}
+
 // Each edit of a line.
 fn edits(alloc: Global) -> Outcome {
     for (step, text) in LEFT.iter().enumerate() {
-        let mut line = line_of(alloc, "a\u{304b}b", NUMBER)?;
-        if edit(alloc, &mut line, step)?.is_err() {
-            return refused(Stop::Memory, stands(&line));
-        }
-        let number = if step == 13 { NUMBER } else { NEXT };
-        if !is_line(&line, text, number)? {
+        if !is_edited(alloc, step, text)? {
             return Ok(false);
         }
     }
@@ -127,7 +131,7 @@ fn long_texts(alloc: Global) -> Outcome {
 fn split(alloc: Global) -> Outcome {
     let mut line = line_of(alloc, "a\u{304b}b", NUMBER)?;
     match line.split_off(2, NEXT) {
-        Ok(rest) => Ok(is_line(&line, "a ", NUMBER)? && is_line(&rest, " b", NEXT)?),
+        Ok(rest) => all(&[is_line(&line, "a ", NUMBER), is_line(&rest, " b", NEXT)]),
         Err(_) => refused(Stop::Memory, stands(&line)),
     }
 }
@@ -188,7 +192,10 @@ fn found_links(alloc: Global) -> Outcome {
     if line.invalidate_implicit_hyperlinks(NEXT).is_err() {
         return refused(Stop::Memory, stands(&line));
     }
-    Ok(had_link && !line.has_hyperlink() && is_line(&line, "ab", NEXT)?)
+    all(&[
+        Ok(had_link && !line.has_hyperlink()),
+        is_line(&line, "ab", NEXT),
+    ])
 }
 
 /// Checks edits of lines.

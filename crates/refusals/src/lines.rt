@@ -1,6 +1,6 @@
-//! Lines: makers, and what is asked of them. か takes two columns.
+//! Lines: makers, and queries of lines. か takes two columns.
 use crate::cells::LONG;
-use crate::outcome::{Outcome, Stop};
+use crate::outcome::{Outcome, Stop, all};
 use crate::tally::Tally;
 use cell_base::{Cell, CellAttributes, ProgramWidth, SemanticType};
 use cell_line::{CellCluster, Line};
@@ -23,7 +23,7 @@ fn makers(alloc: Global) -> Outcome {
     let cell = Cell::new_grapheme(alloc, LONG, CellAttributes::blank(), &ProgramWidth)?;
     let wide = Line::with_width_and_cell(alloc, 2, cell, 1)?;
     let blanks = Line::with_width(alloc, 3, 1)?;
-    Ok(is_line(&wide, LONG, 1)? && is_line(&blanks, "   ", 1)?)
+    all(&[is_line(&wide, LONG, 1), is_line(&blanks, "   ", 1)])
 }
 
 // Lines of texts.
@@ -31,7 +31,11 @@ fn texts(alloc: Global) -> Outcome {
     let attrs = CellAttributes::blank();
     let wrapped = Line::from_text_with_wrapped_last_col(alloc, "ab", &attrs, 1, &ProgramWidth)?;
     let plain = Line::try_from_text(alloc, LONG, &ProgramWidth)?;
-    Ok(is_line(&wrapped, "ab", 1)? && wrapped.last_cell_was_wrapped() && is_line(&plain, LONG, 0)?)
+    all(&[
+        is_line(&wrapped, "ab", 1),
+        Ok(wrapped.last_cell_was_wrapped()),
+        is_line(&plain, LONG, 0),
+    ])
 }
 
 // A line of cells that are given.
@@ -43,39 +47,61 @@ fn given_cells(alloc: Global) -> Outcome {
     is_line(&Line::from_cells(alloc, cells, 2), "xxx", 2)
 }
 
+// Whether a copy of the line equals it.
+fn has_copy(line: &Line) -> Outcome {
+    Ok(line.try_clone()? == *line)
+}
+
+// Whether columns 1 to 3 are those of `bか`.
+fn has_part(line: &Line) -> Outcome {
+    is_line(&line.columns_as_line(1..4)?, "b\u{304b}", 2)
+}
+
+// Whether columns 2 to 4 have the text `かc`.
+fn has_text(line: &Line) -> Outcome {
+    Ok(line.columns_as_str(2..5)?.as_str() == "\u{304b}c")
+}
+
 // A copy, and parts of a line.
 fn parts(alloc: Global) -> Outcome {
     let line = line_of(alloc, "ab\u{304b}c", 2)?;
-    let copy = line.try_clone()?;
-    let part = line.columns_as_line(1..4)?;
-    let text = line.columns_as_str(2..5)?;
-    Ok(
-        copy == line
-            && is_line(&part, "b\u{304b}", 2)?
-            && text.as_str() == "\u{304b}c"
-            && is_line(&line, "ab\u{304b}c", 2)?,
-    )
+    all(&[
+        has_copy(&line),
+        has_part(&line),
+        has_text(&line),
+        is_line(&line, "ab\u{304b}c", 2),
+    ])
+}
+
+// How many columns a copy of a cluster has; its text is that of the cluster.
+fn copied_width(cluster: &CellCluster) -> Result<usize, Stop> {
+    let copy = cluster.try_clone()?;
+    if copy.text.as_str() == cluster.text.as_str() {
+        Ok(copy.width)
+    } else {
+        Err(Stop::Other)
+    }
+}
+
+// Whether there are two clusters, whose copies have six columns in all.
+fn are_two(clusters: &[CellCluster]) -> Outcome {
+    let mut width = 0usize;
+    for cluster in clusters {
+        width = width.saturating_add(copied_width(cluster)?);
+    }
+    Ok(clusters.len() == 2 && width == 6)
 }
 
 // The clusters of a line, and their copies.
 fn clusters(alloc: Global) -> Outcome {
     let line = line_of(alloc, "ab c\u{304b}", 2)?;
     let clusters = line.cluster()?;
-    let mut width = 0usize;
-    for cluster in &clusters {
-        let copy = cluster.try_clone()?;
-        if copy.text.as_str() != cluster.text.as_str() {
-            return Ok(false);
-        }
-        width = width.saturating_add(copy.width);
-    }
     let remaining = CellCluster::make_cluster(alloc, 8, line.visible_cells())?;
-    Ok(
-        clusters.len() == 2
-            && width == 6
-            && remaining.len() == 2
-            && is_line(&line, "ab c\u{304b}", 2)?,
-    )
+    all(&[
+        are_two(&clusters),
+        are_two(&remaining),
+        is_line(&line, "ab c\u{304b}", 2),
+    ])
 }
 
 // Copies of cells that are lent.
@@ -88,25 +114,35 @@ fn lent_cells(alloc: Global) -> Outcome {
     Ok(copy.str() == LONG && copy.width() == 2 && line.get_cell(1).is_none())
 }
 
+// Whether two changes write the line, and it has one zone.
+fn has_changes_and_a_zone(line: &Line) -> Outcome {
+    let changes = line.changes(&CellAttributes::blank())?;
+    let zones = line.semantic_zone_ranges()?;
+    Ok(changes.len() == 2 && zones.len() == 1)
+}
+
 // The changes that write a line, and its zones.
 fn changes_and_zones(alloc: Global) -> Outcome {
     let mut attrs = CellAttributes::blank();
     attrs.set_semantic_type(SemanticType::Input);
     let line = Line::from_text(alloc, "ab", &attrs, 0, &ProgramWidth)?;
-    let changes = line.changes(&CellAttributes::blank())?;
-    let zones = line.semantic_zone_ranges()?;
-    Ok(changes.len() == 2 && zones.len() == 1 && is_line(&line, "ab", 0)?)
+    all(&[has_changes_and_a_zone(&line), is_line(&line, "ab", 0)])
+}
+
+// The texts of lines, each with `|` after it.
+fn texts_of(alloc: Global, lines: &[Line]) -> Result<String, Stop> {
+    let mut text = String::new(alloc);
+    for line in lines {
+        text.push_str(line.as_str()?.as_str())?;
+        text.push('|')?;
+    }
+    Ok(text)
 }
 
 // A line that is wrapped; a refused one is dropped.
 fn wrapped(alloc: Global) -> Outcome {
     let lines = line_of(alloc, "abcde\u{304b}f  ", 2)?.wrap(3, 4)?;
-    let mut text = String::new(alloc);
-    for line in &lines {
-        text.push_str(line.as_str()?.as_str())?;
-        text.push('|')?;
-    }
-    Ok(text.as_str() == "abc|de|\u{304b}f|")
+    Ok(texts_of(alloc, &lines)?.as_str() == "abc|de|\u{304b}f|")
 }
 
 // A line of blanks, which is wrapped to itself.
@@ -118,7 +154,7 @@ fn wrapped_blanks(alloc: Global) -> Outcome {
     }
 }
 
-/// Checks makers of lines, and what is asked of lines.
+/// Checks makers of lines, and queries of lines.
 pub fn check<W: Write>(alloc: Global, tally: &mut Tally<W>) {
     tally.take("makers of lines", makers(alloc));
     tally.take("lines of texts", texts(alloc));

@@ -19,9 +19,24 @@ pub enum Stop {
 /// Whether all that a check saw was right, or why it ended early.
 pub type Outcome = Result<bool, Stop>;
 
-/// A refusal, after which stands what must stand, or not.
+/// A refusal: the stop where `stands` says that the state after it is right, else `false`.
 pub fn refused(stop: Stop, stands: bool) -> Outcome {
     if stands { Err(stop) } else { Ok(false) }
+}
+
+/// Whether all are right; of those that are not, the first decides. Each is made, whatever those before it are.
+pub fn all(outcomes: &[Outcome]) -> Outcome {
+    for outcome in outcomes {
+        if !(*outcome)? {
+            return Ok(false);
+        }
+    }
+    Ok(true)
+}
+
+/// Whether all answers are true.
+pub fn hold(answers: &[bool]) -> bool {
+    !answers.contains(&false)
 }
 
 impl From<AllocError> for Stop {

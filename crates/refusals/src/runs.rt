@@ -17,7 +17,7 @@ const INPUT: &[u8] = b"w00tfoobaarbaz";
 const ROWS: &[u8] = b"foob\naarb\naz  \n";
 
 // Whether a run wrote all of its output, or a prefix of it and was refused memory.
-fn told(ran: Result<(), RunError>, taken: &[u8], whole: &[u8]) -> Outcome {
+fn compared(ran: Result<(), RunError>, taken: &[u8], whole: &[u8]) -> Outcome {
     match ran {
         Ok(()) => Ok(taken == whole),
         Err(error) => refused(Stop::from(error), whole.starts_with(taken)),
@@ -33,7 +33,7 @@ fn updates(alloc: Global) -> Outcome {
         let mut writer = Watched::new(&mut sink);
         run(alloc, &mut reader, &mut writer, 4, 1, 2, ProgramWidth)
     };
-    told(ran, sink.taken(), UPDATES)
+    compared(ran, sink.taken(), UPDATES)
 }
 
 // The rows of a stream.
@@ -45,7 +45,7 @@ fn rows(alloc: Global) -> Outcome {
         let mut writer = Watched::new(&mut sink);
         show(alloc, &mut reader, &mut writer, 4, 3, ProgramWidth)
     };
-    told(ran, sink.taken(), ROWS)
+    compared(ran, sink.taken(), ROWS)
 }
 
 /// Checks `run` and `show`.

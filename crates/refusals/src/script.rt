@@ -1,7 +1,8 @@
 //! Whole scripts: each answer before a refusal is that of the run without one.
-use crate::outcome::{Outcome, Stop, refused};
+use crate::outcome::{Outcome, Stop, all, hold, refused};
 use crate::tally::Tally;
 use crate::terminals::{Plain, ask, ended, shows};
+use cell_surface::Surface;
 use std::alloc::Global;
 use std::io::Write;
 use terminal::{ProgramWidth, SequenceNo, Terminal, TerminalError};
@@ -13,10 +14,10 @@ const UPDATE: &[u8] =
 const PATCH: &[u8] =
     b"\x1b]2;\x1b\\\x1b[1;1H\x1b[0m\x1b]8;;\x1b\\a\0\x1b[0m\x1b]8;id=1;u\x1b\\b\0\x1b[0m\x1b[1m\x1b]8;id=1;u\x1b\\c\0\x1b[1;3H\x1b[0m\x1b[1m\x1b]8;id=1;u\x1b\\c\0\x1b[0m\x1b[1m\x1b]8;id=1;u\x1b\\\x1b[?25h";
 
-// What the terminal is asked by the first feed.
+// The reply of the terminal to the first feed.
 const REPLY: &[u8] = b"\x1b[1;3R";
 
-// An answer of the short script: what is asked for, and what must come, after what is shown.
+// An answer of the short script: the request, and the expected answer, after what is shown.
 #[derive(Clone, Copy)]
 struct Wanted {
     since: SequenceNo,
@@ -28,7 +29,7 @@ struct Wanted {
 }
 
 // What follows an answer of which the bytes were refused: the terminal is as it is after a look, and gives the
-// answer if it is asked again.
+// answer to a second request.
 fn again(terminal: &mut Plain, shown: &Plain, wanted: &Wanted) -> Outcome {
     let stands = shows(terminal, wanted.rows)? && terminal.current_number() == wanted.number;
     let (number, bytes) = ask(terminal, shown, wanted.since, wanted.is_patch)?;
@@ -37,7 +38,7 @@ fn again(terminal: &mut Plain, shown: &Plain, wanted: &Wanted) -> Outcome {
     Ok(stands && is_whole && replies.as_slice() == wanted.replies)
 }
 
-// An answer is as it should be, or was refused, and then stands what must stand.
+// An answer is as it should be, or was refused, and then the terminal is as it should be.
 fn answered(alloc: Global, terminal: &mut Plain, shown: &Plain, wanted: &Wanted) -> Outcome {
     match ask(terminal, shown, wanted.since, wanted.is_patch) {
         Ok((number, sent)) => Ok(number == wanted.number && sent.as_slice() == wanted.bytes),
@@ -87,20 +88,25 @@ fn end(alloc: Global, terminal: &mut Plain, shown: &Plain, is_early: bool) -> Ou
     Ok(is_right && replies.as_slice() == replies_left(is_early))
 }
 
-// The short script. The replies are taken after the first feed, or at the end.
-fn short(alloc: Global, is_early: bool) -> Outcome {
-    let mut terminal = Terminal::new(alloc, 4, 2, ProgramWidth)?;
+// The short script on a new terminal. The replies are taken after the first feed, or at the end.
+fn play_short(alloc: Global, terminal: &mut Plain, shown: &Plain, is_early: bool) -> Outcome {
     if let Err(error) = terminal.feed(b"a\x1b]8;id=1;u\x1b\\b\x1b[6n") {
-        return ended(alloc, error, &mut terminal);
+        return ended(alloc, error, terminal);
     }
     if is_early && terminal.take_replies().as_slice() != REPLY {
         return Ok(false);
     }
-    if let Err(error) = go_on(&mut terminal) {
-        return ended(alloc, error, &mut terminal);
+    if let Err(error) = go_on(terminal) {
+        return ended(alloc, error, terminal);
     }
+    end(alloc, terminal, shown, is_early)
+}
+
+// The short script.
+fn short(alloc: Global, is_early: bool) -> Outcome {
     let shown = Terminal::new(alloc, 3, 2, ProgramWidth)?;
-    end(alloc, &mut terminal, &shown, is_early)
+    let mut terminal = Terminal::new(alloc, 4, 2, ProgramWidth)?;
+    play_short(alloc, &mut terminal, &shown, is_early)
 }
 
 // How many pieces the long script has.
@@ -129,21 +135,34 @@ fn replies_to(index: usize) -> &'static [u8] {
     }
 }
 
+// Whether both have the same rows.
+fn has_same_rows(one: &Surface<ProgramWidth>, other: &Surface<ProgramWidth>) -> Outcome {
+    let rows = one.screen_chars_to_string()?;
+    Ok(rows.as_str() == other.screen_chars_to_string()?.as_str())
+}
+
+// Whether both have the same cells.
+fn has_same_cells(one: &Surface<ProgramWidth>, other: &Surface<ProgramWidth>) -> Outcome {
+    Ok(one.diff_screens(other)?.is_empty())
+}
+
 // Whether both show the same rows, cursor, title and pen.
 fn shows_same(terminal: &Plain, viewer: &Plain) -> Outcome {
     let (one, other) = (terminal.surface(), viewer.surface());
-    let rows = one.screen_chars_to_string()?;
-    Ok(
-        one.cursor_position() == other.cursor_position()
-            && one.cursor_visibility() == other.cursor_visibility()
-            && one.title() == other.title()
-            && one.pen() == other.pen()
-            && rows.as_str() == other.screen_chars_to_string()?.as_str()
-            && one.diff_screens(other)?.is_empty(),
-    )
+    let has_same_state = hold(&[
+        one.cursor_position() == other.cursor_position(),
+        one.cursor_visibility() == other.cursor_visibility(),
+        one.title() == other.title(),
+        one.pen() == other.pen(),
+    ]);
+    all(&[
+        Ok(has_same_state),
+        has_same_rows(one, other),
+        has_same_cells(one, other),
+    ])
 }
 
-// What a refused answer leaves: a terminal that has failed and says so, or one that answers when it is asked again.
+// What a refused answer leaves: a terminal that has failed and says so, or one that answers a second request.
 fn asked_again(
     alloc: Global,
     error: TerminalError,
@@ -171,18 +190,18 @@ fn answer(
     match ask(terminal, viewer, number, is_patch) {
         Ok((now, bytes)) => {
             read(alloc, viewer, &bytes)?;
-            told(shows_same(terminal, viewer))?;
+            go_on_if_right(shows_same(terminal, viewer))?;
             Ok(now)
         }
         Err(error) => {
-            told(asked_again(alloc, error, (terminal, viewer), number, is_patch))?;
+            go_on_if_right(asked_again(alloc, error, (terminal, viewer), number, is_patch))?;
             Err(Stop::Other)
         }
     }
 }
 
 // What is not right ends a script.
-fn told(outcome: Outcome) -> Result<(), Stop> {
+fn go_on_if_right(outcome: Outcome) -> Result<(), Stop> {
     if outcome? { Ok(()) } else { Err(Stop::Other) }
 }
 
@@ -191,7 +210,7 @@ fn read(alloc: Global, terminal: &mut Plain, bytes: &[u8]) -> Result<(), Stop> {
     match terminal.feed(bytes) {
         Ok(()) => Ok(()),
         Err(error) => {
-            told(ended(alloc, error, terminal))?;
+            go_on_if_right(ended(alloc, error, terminal))?;
             Err(Stop::Other)
         }
     }
@@ -202,7 +221,7 @@ fn resize(alloc: Global, terminal: &mut Plain) -> Result<(), Stop> {
     match terminal.resize(9, 3) {
         Ok(()) => Ok(()),
         Err(error) => {
-            told(ended(alloc, error, terminal))?;
+            go_on_if_right(ended(alloc, error, terminal))?;
             Err(Stop::Other)
         }
     }
@@ -218,7 +237,7 @@ fn step(
 ) -> Result<SequenceNo, Stop> {
     read(alloc, terminal, piece(index))?;
     let number = answer(alloc, terminal, viewer, number, matches!(index, 1 | 4 | 7))?;
-    told(Ok(terminal.take_replies().as_slice() == replies_to(index)))?;
+    go_on_if_right(Ok(terminal.take_replies().as_slice() == replies_to(index)))?;
     if index == 4 {
         resize(alloc, terminal)?;
         resize(alloc, viewer)?;
@@ -227,15 +246,20 @@ fn step(
     Ok(number)
 }
 
+// The long script on two new terminals.
+fn play_long(alloc: Global, terminal: &mut Plain, viewer: &mut Plain) -> Outcome {
+    let mut number = 0;
+    for index in 0..PIECES {
+        number = step(alloc, terminal, viewer, number, index)?;
+    }
+    Ok(true)
+}
+
 // The long script.
 fn long(alloc: Global) -> Outcome {
     let mut terminal = Terminal::new(alloc, 10, 3, ProgramWidth)?;
     let mut viewer = Terminal::new(alloc, 10, 3, ProgramWidth)?;
-    let mut number = 0;
-    for index in 0..PIECES {
-        number = step(alloc, &mut terminal, &mut viewer, number, index)?;
-    }
-    Ok(true)
+    play_long(alloc, &mut terminal, &mut viewer)
 }
 
 /// Checks whole scripts.

@@ -1,5 +1,5 @@
 //! Control sequences: after a refusal the actions of a list end.
-use crate::outcome::{Outcome, Stop, refused};
+use crate::outcome::{Outcome, Stop, all, refused};
 use crate::tally::Tally;
 use csi_codec::{
     CSI, CrackError, Cracked, CsiParam, Esc, EscCode, OneBased, Unspecified, read_csi,
@@ -10,6 +10,13 @@ use std::io::Write;
 
 const SEMICOLON: CsiParam = CsiParam::P(b';');
 
+// Appends the text of an action to both; whether the action equals its copy.
+fn take(alloc: Global, action: &CSI, written: &mut String, bytes: &mut Vec<u8>) -> Outcome {
+    write!(written, "{action}")?;
+    action.append_bytes_to(bytes)?;
+    Ok(action.try_clone(alloc)? == *action)
+}
+
 // The actions of a list, equal to their copies, and their texts joined.
 fn is_list(alloc: Global, params: &[CsiParam], control: char, text: &str) -> Outcome {
     let mut written = String::new(alloc);
@@ -19,9 +26,7 @@ fn is_list(alloc: Global, params: &[CsiParam], control: char, text: &str) -> Out
         let Ok(action) = item else {
             return refused(Stop::Memory, actions.next().is_none());
         };
-        write!(written, "{action}")?;
-        action.append_bytes_to(&mut bytes)?;
-        if action.try_clone(alloc)? != action {
+        if !take(alloc, &action, &mut written, &mut bytes)? {
             return Ok(false);
         }
     }
@@ -58,12 +63,12 @@ fn other_lists(alloc: Global) -> Outcome {
         SEMICOLON,
         CsiParam::Integer(1049),
     ];
-    let place = [CsiParam::Integer(2), SEMICOLON, CsiParam::Integer(3)];
-    Ok(
-        is_list(alloc, &[CsiParam::Integer(5)], 'n', "\x1b[5n")?
-            && is_list(alloc, &modes, 'h', "\x1b[?25h\x1b[?1049h")?
-            && is_list(alloc, &place, 'H', "\x1b[2;3H")?,
-    )
+    let position = [CsiParam::Integer(2), SEMICOLON, CsiParam::Integer(3)];
+    all(&[
+        is_list(alloc, &[CsiParam::Integer(5)], 'n', "\x1b[5n"),
+        is_list(alloc, &modes, 'h', "\x1b[?25h\x1b[?1049h"),
+        is_list(alloc, &position, 'H', "\x1b[2;3H"),
+    ])
 }
 
 // The rest of a list by itself.

@@ -28,7 +28,7 @@ impl Write for Sink {
     fn write(&mut self, buf: &[u8]) -> io::Result<usize> {
         for byte in buf {
             match self.bytes.get_mut(self.count) {
-                Some(place) => *place = *byte,
+                Some(position) => *position = *byte,
                 None => return Err(io::Error::from(ErrorKind::Other)),
             }
             self.count = self.count.saturating_add(1);

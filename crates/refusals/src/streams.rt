@@ -1,12 +1,12 @@
 //! Parsers, which have failed once they were refused memory, and lists of actions.
-use crate::outcome::{Outcome, Stop, refused};
+use crate::outcome::{Outcome, Stop, all, hold, refused};
 use crate::tally::Tally;
 use escape_framing::Framer;
 use escape_stream::{Action, ControlCode, ParseError, Parser, Piece, encode};
 use std::alloc::Global;
 use std::io::Write;
 
-// Texts, a list with a rest, a request, a command, a device control string and pairs; each is written as it stands.
+// Texts, a list with a rest, a request, a command, a device control string and pairs; each is written as it is.
 const STREAM: &[u8] =
     b"ab\xe3\x81\x8b\x1b[1m\x1b[255;255m\x1b[5n\x1b]8;id=1;u\x1b\\c\x1bP1$qm\x1b\\\x1b]0;t\x1b\\\x08\x1bc\x1b(0z";
 
@@ -18,15 +18,17 @@ const CALLS: usize = 19;
 
 // A parser that has failed answers so, of pieces as the one item.
 fn has_failed(parser: &mut Parser) -> bool {
-    parser.is_failed()
-        && matches!(parser.parse(b"x", |_| {}), Err(ParseError::Failed))
-        && matches!(parser.parse_as_vec(b"x"), Err(ParseError::Failed))
-        && matches!(parser.parse_first(b"x"), Err(ParseError::Failed))
-        && matches!(parser.parse_first_as_vec(b"x"), Err(ParseError::Failed))
-        && pieces_have_failed(parser)
+    hold(&[
+        parser.is_failed(),
+        matches!(parser.parse(b"x", |_| {}), Err(ParseError::Failed)),
+        matches!(parser.parse_as_vec(b"x"), Err(ParseError::Failed)),
+        matches!(parser.parse_first(b"x"), Err(ParseError::Failed)),
+        matches!(parser.parse_first_as_vec(b"x"), Err(ParseError::Failed)),
+        pieces_have_failed(parser),
+    ])
 }
 
-// The one piece of a parser that has failed is that.
+// The only piece of a parser that has failed is `Failed`.
 fn pieces_have_failed(parser: &mut Parser) -> bool {
     let mut pieces = parser.pieces(b"x");
     let is_first = matches!(pieces.next(), Some(Err(ParseError::Failed)));
@@ -54,7 +56,7 @@ fn lists(alloc: Global) -> Outcome {
     Ok(bytes.as_slice() == STREAM && actions.len() == ACTIONS)
 }
 
-// The stream in pieces of one byte.
+// The stream in chunks of one byte.
 fn bytes(alloc: Global) -> Outcome {
     let mut parser = Parser::new(alloc);
     let mut actions = Vec::new(alloc);
@@ -151,11 +153,11 @@ fn appended(alloc: Global, action: Action, count: usize) -> Outcome {
 // Prints and others after a print.
 fn joined(alloc: Global) -> Outcome {
     let text = String::from_str(alloc, "hellotherehellotherehellothere")?;
-    Ok(
-        appended(alloc, Action::Print('b'), 1)?
-            && appended(alloc, Action::PrintString(text), 1)?
-            && appended(alloc, Action::Control(ControlCode::Bell), 2)?,
-    )
+    all(&[
+        appended(alloc, Action::Print('b'), 1),
+        appended(alloc, Action::PrintString(text), 1),
+        appended(alloc, Action::Control(ControlCode::Bell), 2),
+    ])
 }
 
 // A framer says where it is refused memory.

@@ -2,7 +2,7 @@
 use crate::cells::LONG;
 use crate::changes::{CHANGES, all_changes, change_of, text_of};
 use crate::lines::line_of;
-use crate::outcome::{Outcome, Stop, refused};
+use crate::outcome::{Outcome, Stop, all, hold, refused};
 use crate::tally::Tally;
 use cell_line::Line;
 use cell_surface::{Change, ProgramWidth, SequenceNo, Surface, SurfaceError};
@@ -27,12 +27,11 @@ fn shows(surface: &Plain, rows: &str) -> Outcome {
 
 // Whether a surface is the one of the text `abcdef`.
 fn is_unchanged(surface: &Plain) -> Outcome {
-    Ok(
-        !surface.is_failed()
-            && surface.current_seqno() == 1
-            && surface.cursor_position() == (2, 1)
-            && shows(surface, ROWS)?,
-    )
+    all(&[
+        Ok(!surface.is_failed() && surface.current_seqno() == 1),
+        Ok(surface.cursor_position() == (2, 1)),
+        shows(surface, ROWS),
+    ])
 }
 
 // Whether an answer is that the surface has failed.
@@ -42,38 +41,39 @@ fn is_failed<T: Drop>(answer: Result<T, SurfaceError>) -> bool {
 
 // Whether each changing call of a surface, and `get_changes`, answers that it has failed, and dropping changes does
 // nothing.
-fn has_failed(alloc: Global, surface: &mut Plain, other: &Plain) -> Outcome {
+fn has_failed(alloc: Global, surface: &mut Plain, other: &Plain) -> bool {
     let title = Change::Title(String::new(alloc));
-    let added = surface.is_failed()
-        && is_failed(surface.add_change(title))
-        && is_failed(surface.add_changes(Vec::new(alloc)))
-        && is_failed(surface.resize(2, 2));
-    let drawn = is_failed(surface.draw_from_screen(other, 0, 0))
-        && is_failed(surface.copy_region(0, 0, 2, 2, 1, 1));
+    let changed = hold(&[
+        surface.is_failed(),
+        is_failed(surface.add_change(title)),
+        is_failed(surface.add_changes(Vec::new(alloc))),
+        is_failed(surface.resize(2, 2)),
+        is_failed(surface.draw_from_screen(other, 0, 0)),
+        is_failed(surface.copy_region(0, 0, 2, 2, 1, 1)),
+    ]);
     let number = surface.current_seqno();
     surface.flush_changes_older_than(number);
-    Ok(added && drawn && is_failed(surface.get_changes(0)) && surface.current_seqno() == number)
+    changed && is_failed(surface.get_changes(0)) && surface.current_seqno() == number
 }
 
 // What follows a changing call that was refused.
 fn ended(alloc: Global, error: SurfaceError, mut surface: Plain) -> Outcome {
     let other = Surface::new(alloc, 4, 3, ProgramWidth)?;
-    let stands = has_failed(alloc, &mut surface, &other)?;
-    refused(Stop::from(error), stands)
+    refused(Stop::from(error), has_failed(alloc, &mut surface, &other))
 }
 
-// A new surface, and what is asked of it without memory.
+// A new surface, and queries of it that take no memory.
 fn new_surfaces(alloc: Global) -> Outcome {
     let mut surface = Surface::new(alloc, 4, 3, ProgramWidth)?;
     surface.flush_changes_older_than(0);
-    Ok(
-        surface.dimensions() == (4, 3)
-            && surface.title() == ""
-            && surface.cursor_shape().is_none()
-            && !surface.has_changes(0)
-            && surface.screen_lines().len() == 3
-            && shows(&surface, "    \n    \n    \n")?,
-    )
+    let is_new = hold(&[
+        surface.dimensions() == (4, 3),
+        surface.title() == "",
+        surface.cursor_shape().is_none(),
+        !surface.has_changes(0),
+        surface.screen_lines().len() == 3,
+    ]);
+    all(&[Ok(is_new), shows(&surface, "    \n    \n    \n")])
 }
 
 // A change of each kind.
@@ -99,17 +99,22 @@ fn lists(alloc: Global) -> Outcome {
     }
 }
 
-// Long texts, which scroll, in the memory of those that are gone.
+// A long text, in the memory of one that the log has dropped where there is one.
+fn long_text(surface: &mut Plain) -> Result<String, Stop> {
+    let mut text = surface.pooled_text();
+    text.push_str("a")?;
+    text.push_str(LONG)?;
+    text.push_str("b\r\n")?;
+    Ok(text)
+}
+
+// Long texts, which scroll.
 fn long_texts(alloc: Global) -> Outcome {
     let mut surface = Surface::new(alloc, 4, 3, ProgramWidth)?;
     for _ in 0..20 {
-        let mut text = surface.spare_text();
-        text.push_str("a")?;
-        text.push_str(LONG)?;
-        text.push_str("b\r\n")?;
-        match surface.add_change(text) {
-            Ok(_) => {}
-            Err(error) => return ended(alloc, error, surface),
+        let text = long_text(&mut surface)?;
+        if let Err(error) = surface.add_change(text) {
+            return ended(alloc, error, surface);
         }
     }
     Ok(surface.cursor_position() == (0, 2) && surface.current_seqno() == 20)
@@ -151,10 +156,10 @@ fn due(surface: &Plain, number: SequenceNo, count: usize) -> Outcome {
     }
 }
 
-// Changes that are asked for.
+// Requests of changes.
 fn changes_due(alloc: Global) -> Outcome {
     let surface = surface_of(alloc, "abcdef")?;
-    Ok(due(&surface, 1, 0)? && due(&surface, 0, 7)?)
+    all(&[due(&surface, 1, 0), due(&surface, 0, 7)])
 }
 
 // A difference, or what follows one that was refused.
@@ -164,7 +169,7 @@ fn is_difference(
     count: usize,
 ) -> Outcome {
     match answer {
-        Ok(changes) => Ok(changes.len() == count && is_unchanged(surface)?),
+        Ok(changes) => all(&[Ok(changes.len() == count), is_unchanged(surface)]),
         Err(error) => refused(Stop::from(error), is_unchanged(surface)?),
     }
 }
@@ -173,32 +178,57 @@ fn is_difference(
 fn differences(alloc: Global) -> Outcome {
     let surface = surface_of(alloc, "abcdef")?;
     let other = surface_of(alloc, "abxdef\u{304b}")?;
-    let screens = surface.diff_screens(&other);
+    let screens = is_difference(&surface, surface.diff_screens(&other), 5);
     let region = surface.diff_region(1, 0, 3, 2, &other, 1, 0);
-    Ok(is_difference(&surface, screens, 5)? && is_difference(&surface, region, 5)?)
+    all(&[screens, is_difference(&surface, region, 5)])
+}
+
+// The difference against a line by its number.
+fn numbered_line(surface: &Plain, line: &Line) -> Outcome {
+    is_difference(surface, surface.diff_against_numbered_line(0, line), 5)
+}
+
+// The difference against a list of one line.
+fn listed_line(alloc: Global, surface: &Plain, line: &Line) -> Outcome {
+    let mut lines = Vec::new(alloc);
+    lines.push(line)?;
+    is_difference(surface, surface.diff_lines(lines), 5)
 }
 
 // Differences against lines.
 fn differences_of_lines(alloc: Global) -> Outcome {
     let surface = surface_of(alloc, "abcdef")?;
-    let line: Line = line_of(alloc, "axcx", 0)?;
-    let mut lines = Vec::new(alloc);
-    lines.push(&line)?;
-    let numbered = surface.diff_against_numbered_line(0, &line);
-    let listed = surface.diff_lines(lines);
-    Ok(is_difference(&surface, numbered, 5)? && is_difference(&surface, listed, 5)?)
+    let line = line_of(alloc, "axcx", 0)?;
+    all(&[
+        numbered_line(&surface, &line),
+        listed_line(alloc, &surface, &line),
+    ])
+}
+
+// Whether there are three rows of cells to copy out.
+fn has_cells(surface: &Plain) -> Outcome {
+    match surface.screen_cells() {
+        Ok(cells) => Ok(cells.len() == 3),
+        Err(_) => refused(Stop::Memory, is_unchanged(surface)?),
+    }
+}
+
+// Whether a copy of the surface is equal.
+fn has_copy(surface: &Plain) -> Outcome {
+    match surface.try_clone() {
+        Ok(copy) => is_unchanged(&copy),
+        Err(_) => refused(Stop::Memory, is_unchanged(surface)?),
+    }
 }
 
 // Rows and cells that are copied out, and a copy of the surface.
 fn readings(alloc: Global) -> Outcome {
     let surface = surface_of(alloc, "abcdef")?;
-    let Ok(cells) = surface.screen_cells() else {
-        return refused(Stop::Memory, is_unchanged(&surface)?);
-    };
-    let Ok(copy) = surface.try_clone() else {
-        return refused(Stop::Memory, is_unchanged(&surface)?);
-    };
-    Ok(cells.len() == 3 && is_unchanged(&surface)? && is_unchanged(&copy)?)
+    all(&[
+        has_cells(&surface),
+        has_copy(&surface),
+        is_unchanged(&surface),
+    ])
 }
 
 /// Checks surfaces.

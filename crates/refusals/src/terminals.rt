@@ -1,6 +1,6 @@
 //! Terminals: one whose bytes, look or size were refused memory has failed; one whose answer was is as after a look.
 use crate::changes::{CHANGES, change_of};
-use crate::outcome::{Outcome, Stop, refused};
+use crate::outcome::{Outcome, Stop, all, hold, refused};
 use crate::tally::Tally;
 use std::alloc::Global;
 use std::io::Write;
@@ -49,13 +49,15 @@ fn is_failed<T: Drop>(answer: Result<T, TerminalError>) -> bool {
 
 /// Whether each call of a terminal that can be refused answers that it has failed, also one that is fed nothing.
 pub fn has_failed(terminal: &mut Plain) -> bool {
-    terminal.is_failed()
-        && is_failed(terminal.feed(b""))
-        && is_failed(terminal.feed(b"x"))
-        && is_failed(terminal.settle())
-        && is_failed(terminal.update(0))
-        && is_failed(terminal.resize(2, 2))
-        && terminal.is_failed()
+    hold(&[
+        terminal.is_failed(),
+        is_failed(terminal.feed(b"")),
+        is_failed(terminal.feed(b"x")),
+        is_failed(terminal.settle()),
+        is_failed(terminal.update(0)),
+        is_failed(terminal.resize(2, 2)),
+        terminal.is_failed(),
+    ])
 }
 
 // Whether a patch of a terminal that has failed answers so.
@@ -81,27 +83,40 @@ fn fed(alloc: Global) -> Result<Plain, Stop> {
     Ok(terminal)
 }
 
-// The stream, and a look.
-fn feeds(alloc: Global) -> Outcome {
-    let mut terminal = Terminal::new(alloc, 4, 3, ProgramWidth)?;
-    for piece in [STREAM, b"", b"\x1b8\x1b[1", b"m\x1b[?25l"] {
-        if let Err(error) = terminal.feed(piece) {
-            return ended(alloc, error, &mut terminal);
+// Feeds chunks to a terminal.
+fn feed_all(alloc: Global, terminal: &mut Plain, chunks: &[&[u8]]) -> Outcome {
+    for chunk in chunks {
+        if let Err(error) = terminal.feed(chunk) {
+            return ended(alloc, error, terminal);
         }
     }
-    let replies = terminal.take_replies();
-    Ok(terminal.surface().title() == "t" && replies.as_slice() == REPLIES)
+    Ok(true)
 }
 
-// The stream in pieces of one byte.
-fn fed_bytes(alloc: Global) -> Outcome {
+// The stream, and its end in parts.
+fn feeds(alloc: Global) -> Outcome {
     let mut terminal = Terminal::new(alloc, 4, 3, ProgramWidth)?;
+    let chunks: [&[u8]; 4] = [STREAM, b"", b"\x1b8\x1b[1", b"m\x1b[?25l"];
+    let is_fed = feed_all(alloc, &mut terminal, &chunks);
+    let replies = terminal.take_replies();
+    let is_right = terminal.surface().title() == "t" && replies.as_slice() == REPLIES;
+    all(&[is_fed, Ok(is_right)])
+}
+
+// Feeds the stream to a terminal in chunks of one byte.
+fn feed_bytes(alloc: Global, terminal: &mut Plain) -> Outcome {
     for byte in STREAM {
         if let Err(error) = terminal.feed(&[*byte]) {
-            return ended(alloc, error, &mut terminal);
+            return ended(alloc, error, terminal);
         }
     }
     Ok(terminal.current_number() > 9)
+}
+
+// The stream in chunks of one byte.
+fn fed_bytes(alloc: Global) -> Outcome {
+    let mut terminal = Terminal::new(alloc, 4, 3, ProgramWidth)?;
+    feed_bytes(alloc, &mut terminal)
 }
 
 // A look, and a second one, which has nothing to do.
@@ -130,12 +145,12 @@ fn is_same(answer: &Sent, other: &Sent) -> bool {
 // Whether a terminal is the one of the stream after a look.
 fn is_settled(terminal: &mut Plain) -> Outcome {
     let replies = terminal.take_replies();
-    Ok(
-        !terminal.is_failed()
-            && terminal.surface().cursor_position() == (1, 2)
-            && replies.as_slice() == REPLIES
-            && shows(terminal, ROWS)?,
-    )
+    all(&[
+        Ok(!terminal.is_failed()),
+        Ok(terminal.surface().cursor_position() == (1, 2)),
+        Ok(replies.as_slice() == REPLIES),
+        shows(terminal, ROWS),
+    ])
 }
 
 /// An update for a number, or a patch from what another terminal shows.
@@ -153,7 +168,7 @@ fn whole(alloc: Global, shown: &Plain, number: SequenceNo, is_patch: bool) -> Re
     Ok(ask(&mut terminal, shown, number, is_patch)?)
 }
 
-// What follows an answer that was refused: where its bytes were, the call gives them if it is asked again.
+// What follows an answer that was refused: where its bytes were, a second call gives them.
 fn again(error: TerminalError, terminal: &mut Plain, answer: Answer, whole: &Sent) -> Outcome {
     let is_whole = is_same(&answer?, whole);
     refused(Stop::from(error), is_whole && is_settled(terminal)?)
@@ -191,7 +206,8 @@ fn asked(alloc: Global, number: SequenceNo, is_patch: bool) -> Outcome {
 fn plays(alloc: Global) -> Outcome {
     let steps = [Step::Feed(b"ab"), Step::Settle, Step::Resize(3, 2)];
     let terminal = play(alloc, &steps, 4, 2, ProgramWidth)?;
-    Ok(terminal.surface().cursor_position() == (2, 0) && shows(&terminal, "ab \n   \n")?)
+    let is_moved = terminal.surface().cursor_position() == (2, 0);
+    all(&[Ok(is_moved), shows(&terminal, "ab \n   \n")])
 }
 
 // The bytes of each change: of the size of a row, of the cursor's colour and of its shape there are none, whatever the
@@ -209,16 +225,20 @@ fn renderings(alloc: Global) -> Outcome {
     Ok(true)
 }
 
-// Calls that take no memory are refused nothing.
+// Whether calls that take no memory are refused nothing.
+fn is_refused_nothing(terminal: &mut Plain) -> bool {
+    let is_done = terminal.feed(b"").is_ok() && terminal.settle().is_ok();
+    terminal.forget_before(terminal.current_number());
+    let is_replied = terminal.take_replies().as_slice() == REPLIES;
+    let is_taken = terminal.take_replies().is_empty();
+    hold(&[is_done, is_replied, is_taken, !terminal.is_failed()])
+}
+
+// Calls that take no memory.
 fn without_memory(alloc: Global) -> Outcome {
     let mut terminal = fed(alloc)?;
     terminal.settle()?;
-    let number = terminal.current_number();
-    let is_done = terminal.feed(b"").is_ok() && terminal.settle().is_ok();
-    terminal.forget_before(number);
-    let replies = terminal.take_replies();
-    let none = terminal.take_replies();
-    Ok(is_done && none.is_empty() && replies.as_slice() == REPLIES && !terminal.is_failed())
+    Ok(is_refused_nothing(&mut terminal))
 }
 
 /// Checks terminals.

@@ -66,7 +66,7 @@ fn is_surface(surface: &Surface<ProgramWidth>) -> bool {
         && surface.screen_lines().len() == 3
 }
 
-/// What is asked of a surface, also after changes that are dropped.
+/// Calls on a surface, also after changes that are dropped.
 pub fn is_surface_asked(surface: &mut Surface<ProgramWidth>) -> bool {
     let is_right = is_surface(surface) && surface.has_changes(0) && !surface.has_changes(1);
     surface.flush_changes_older_than(9);
@@ -74,7 +74,7 @@ pub fn is_surface_asked(surface: &mut Surface<ProgramWidth>) -> bool {
     is_right && is_surface(surface) && !surface.is_failed()
 }
 
-/// What is asked of a terminal with nothing held that has a reply.
+/// Calls on a terminal with nothing held that has a reply.
 pub fn is_terminal_asked(terminal: &mut Plain) -> bool {
     let is_done = terminal.feed(b"").is_ok() && terminal.settle().is_ok();
     terminal.forget_before(1);

@@ -33,7 +33,7 @@ pub fn are_texts_measured() -> bool {
 }
 
 // Sets what is neither a colour nor the link.
-fn set_look(attrs: &mut CellAttributes) {
+fn set_rendition(attrs: &mut CellAttributes) {
     attrs.set_intensity(Intensity::Bold).set_italic(true);
     attrs.set_underline(Underline::Curly).set_blink(Blink::Slow);
     attrs.set_reverse(true).set_strikethrough(true);
@@ -45,7 +45,7 @@ fn set_look(attrs: &mut CellAttributes) {
 }
 
 // Whether that is set.
-fn has_look(attrs: &CellAttributes) -> bool {
+fn has_rendition(attrs: &CellAttributes) -> bool {
     let is_text = attrs.intensity() == Intensity::Bold
         && attrs.underline() == Underline::Curly
         && attrs.blink() == Blink::Slow
@@ -89,9 +89,9 @@ fn is_copied(attrs: &CellAttributes) -> bool {
 /// Attributes by each setter and each getter, their copies, and what makes them plain again.
 pub fn are_attributes_set(attrs: &mut CellAttributes, link: Option<Rc<Hyperlink>>) -> bool {
     let is_linked = attrs.hyperlink().is_some_and(|link| link.uri() == "u");
-    set_look(attrs);
+    set_rendition(attrs);
     set_colors(attrs, link);
-    let is_set = has_look(attrs) && has_colors(attrs) && is_copied(attrs);
+    let is_set = has_rendition(attrs) && has_colors(attrs) && is_copied(attrs);
     attrs.apply_change(AttributeChange::Italic(false));
     attrs.apply_change(AttributeChange::Foreground(ColorAttribute::Default));
     let is_changed = !attrs.italic() && attrs.foreground() == ColorAttribute::Default;
@@ -110,7 +110,7 @@ pub fn is_cell_asked(cell: &mut Cell) -> bool {
 }
 
 // Numbers that count from 0 and from 1.
-fn are_places_made() -> bool {
+fn are_positions_made() -> bool {
     let zero = CsiParam::Integer(0);
     OneBased::new(2) == OneBased::from_zero_based(1)
         && OneBased::new(7).as_one_based() == 7
@@ -139,7 +139,7 @@ pub fn is_list_asked(alloc: Global, list: &Cracked) -> bool {
         control: b'~',
     };
     are_entries_asked(list)
-        && are_places_made()
+        && are_positions_made()
         && Esc::parse(None, b'c') == Esc::Code(EscCode::FullReset)
         && Esc::parse(None, b'~') == other
         && !Parser::new(alloc).is_failed()

@@ -17,7 +17,7 @@ use Rattle.relay.specs.Settings.{Setting, Show, Give, GiveAll, IsCommandLine, Is
 use Rattle.relay.proofs.SettingNumbers.{number_taken}
 use Rattle.relay.proofs.SettingRows.{had_none, row_for}
 use Rattle.relay.proofs.SettingWalk.{Numbered, Columns, Rows, Bytes, IsNew, awaiting, between, held, joined, joined_walk, line, name_for, number_settles, row_named, rows_at, settling, show_walk, walked_over, with_number}
-use Rattle.relay.proofs.SettingWords.{Look, after_name, dashes, long, short, odd, plain, look, Named, number, show, help, version, unknown, named}
+use Rattle.relay.proofs.SettingWords.{Lookup, after_name, dashes, long, short, odd, plain, lookup, Named, number, show, help, version, unknown, named}
 
 abbrev IsFault : Kinds → Type 0
 IsFault kinds = kinds ≡ [] → ⊥
@@ -136,23 +136,23 @@ dashes_refused k rows (word ∷ rest) p =
 
 -- so the word is taken for the number, whatever it is
 value_passes : (k : Numbered) (rows : List Row) (word : Text) (rest : List Text) → Passes (awaiting k rows) (word ∷ rest) → Passes (between rows (Some (name_for k, word ∷ []))) rest
-value_passes k rows word rest p = by_look (look word) (first_passes (awaiting k rows) word rest p)
+value_passes k rows word rest p = by_lookup (lookup word) (first_passes (awaiting k rows) word rest p)
   where
-    by_look : Look word → (turn_fault line [] (awaiting k rows) word ≡ []) × Passes (walked line.rules [] (awaiting k rows) word) rest
+    by_lookup : Lookup word → (turn_fault line [] (awaiting k rows) word ≡ []) × Passes (walked line.rules [] (awaiting k rows) word) rest
         → Passes (between rows (Some (name_for k, word ∷ []))) rest
-    by_look (dashes is) f = absurd (dashes_refused k rows rest (subst (λ w. Passes (awaiting k rows) (w ∷ rest)) is p))
-    by_look (long name text not_dashes is spelled) f =
+    by_lookup (dashes is) f = absurd (dashes_refused k rows rest (subst (λ w. Passes (awaiting k rows) (w ∷ rest)) is p))
+    by_lookup (long name text not_dashes is spelled) f =
         let h = held rows (Some (name_for k, [])) in
         let passes = word_passes (option (name_for k)) h word f.0 in
         absurd (long_refused h (none_yet k rows) (arg_by_long line.rules name) text
         (sym (long_fault_is (option (name_for k)) h word name text refl not_dashes is) ∙ passes))
-    by_look (short byte flags x not_dashes no_long is first) f =
+    by_lookup (short byte flags x not_dashes no_long is first) f =
         let h = held rows (Some (name_for k, [])) in
         let passes = word_passes (option (name_for k)) h word f.0 in
         absurd (short_refused h (none_yet k rows) (arg_by_short line.rules x) _ _
         (sym (short_fault_is (option (name_for k)) rows (Some (name_for k, [])) word byte flags x refl not_dashes no_long is first) ∙ passes))
-    by_look (odd byte flags not_dashes no_long is first) f = subst (λ w. Passes w rest) (odd_walk k rows word byte flags not_dashes no_long is first) f.1
-    by_look (plain not_dashes no_long no_short) f = subst (λ w. Passes w rest) (value_walk k rows word not_dashes no_long no_short) f.1
+    by_lookup (odd byte flags not_dashes no_long is first) f = subst (λ w. Passes w rest) (odd_walk k rows word byte flags not_dashes no_long is first) f.1
+    by_lookup (plain not_dashes no_long no_short) f = subst (λ w. Passes w rest) (value_walk k rows word not_dashes no_long no_short) f.1
 
 -- ---- a word between two options
 
@@ -271,22 +271,22 @@ opens Bytes rows pending rest p =
     let first = first_passes (between rows pending) (codes "--every") rest p in
     (word_passes idle (held rows pending) (codes "--every") first.0, first.1)
 
-give_apart : (k : Numbered) (text : Text) → Give (with_number k text) ((codes "--" ++ name_for k) ∷ text ∷ [])
-give_apart Columns text = inl refl
-give_apart Rows text = inl refl
-give_apart Bytes text = inl refl
+give_separate : (k : Numbered) (text : Text) → Give (with_number k text) ((codes "--" ++ name_for k) ∷ text ∷ [])
+give_separate Columns text = inl refl
+give_separate Rows text = inl refl
+give_separate Bytes text = inl refl
 
-number_apart : (k : Numbered) (rest : List Text) (rows : List Row) (pending : Option (Text × List Text)) → More rest
+number_separate : (k : Numbered) (rest : List Text) (rows : List Row) (pending : Option (Text × List Text)) → More rest
     → Passes (between rows pending) ((codes "--" ++ name_for k) ∷ rest) → Given rows pending ((codes "--" ++ name_for k) ∷ rest)
-number_apart k [] rows pending more p = absurd (none_yet k (rows_at rows pending) (opens k rows pending [] p).1.settles)
-number_apart k (text ∷ rest) rows pending more p =
+number_separate k [] rows pending more p = absurd (none_yet k (rows_at rows pending) (opens k rows pending [] p).1.settles)
+number_separate k (text ∷ rest) rows pending more p =
     let before = rows_at rows pending in
     let open_k = opens k rows pending (text ∷ rest) p in
     let next = more rest before (Some (name_for k, text ∷ [])) (omega arith) (value_passes k before text rest open_k.1) in
     let taken = number_is_new k text before next.0 in
     let row = (number_settles k text before taken.0 taken.1).1 in (
       open_k.0,
-      given_more before (with_number k text) ((codes "--" ++ name_for k) ∷ text ∷ []) rest (give_apart k text) taken.0 taken.1
+      given_more before (with_number k text) ((codes "--" ++ name_for k) ∷ text ∷ []) rest (give_separate k text) taken.0 taken.1
           (subst (λ rs. GivenAfter rs rest) row next.1),
     )
 
@@ -365,7 +365,7 @@ number_given : (k : Numbered) (text : Option Text) (rest : List Text) (rows : Li
     → Passing rows pending rest (codes "--" ++ (name_for k ++ after_name text)) → GivenBy rows pending rest (codes "--" ++ (name_for k ++ after_name text))
 number_given k None rest rows pending more p =
     let same : codes "--" ++ (name_for k ++ []) ≡ codes "--" ++ name_for k = ap (λ name. codes "--" ++ name) (append-nil (name_for k)) in
-    subst (GivenBy rows pending rest) (sym same) (number_apart k rest rows pending more (subst (Passing rows pending rest) same p))
+    subst (GivenBy rows pending rest) (sym same) (number_separate k rest rows pending more (subst (Passing rows pending rest) same p))
 number_given k (Some text) rest rows pending more p = number_joined k text rest rows pending more p
 
 show_word_given : (text : Option Text) (rest : List Text) (rows : List Row) (pending : Option (Text × List Text)) → More rest
@@ -389,22 +389,22 @@ module _ (name : Text) (text : Option Text) (rest : List Text) (rows : List Row)
   named_given (unknown none) known p = absurd (known none)
 
 word_given : (word : Text) (rest : List Text) (rows : List Row) (pending : Option (Text × List Text)) → More rest → Passing rows pending rest word → GivenBy rows pending rest word
-word_given word rest rows pending more p = by_look (look word) (first_passes (between rows pending) word rest p).0
+word_given word rest rows pending more p = by_lookup (lookup word) (first_passes (between rows pending) word rest p).0
   where
-    by_look : Look word → turn_fault line [] (between rows pending) word ≡ [] → GivenBy rows pending rest word
-    by_look (dashes is) e = subst (GivenBy rows pending rest) (sym is) (dashes_given rows pending rest (subst (Passing rows pending rest) is p))
-    by_look (long name text not_dashes is spelled) e =
+    by_lookup : Lookup word → turn_fault line [] (between rows pending) word ≡ [] → GivenBy rows pending rest word
+    by_lookup (dashes is) e = subst (GivenBy rows pending rest) (sym is) (dashes_given rows pending rest (subst (Passing rows pending rest) is p))
+    by_lookup (long name text not_dashes is spelled) e =
         let passes = sym (long_fault_is idle (held rows pending) word name text refl not_dashes is) ∙ word_passes idle (held rows pending) word e in
         subst (GivenBy rows pending rest) (sym spelled)
         (named_given name text rest rows pending more (named name)
         (λ none. some_fault kind.UnknownArgument [] (ap (λ found. long_fault line.rules false found text (held rows pending)) (sym none) ∙ passes))
         (subst (Passing rows pending rest) spelled p))
-    by_look (short byte flags x not_dashes no_long is first) e =
+    by_lookup (short byte flags x not_dashes no_long is first) e =
         absurd (flag_refused (held rows pending) x _ _
         (sym (short_fault_is idle rows pending word byte flags x refl not_dashes no_long is first) ∙ word_passes idle (held rows pending) word e))
-    by_look (odd byte flags not_dashes no_long is first) e =
+    by_lookup (odd byte flags not_dashes no_long is first) e =
         absurd (some_fault kind.UnknownArgument [] (sym (odd_refused rows pending word byte flags not_dashes no_long is first) ∙ e))
-    by_look (plain not_dashes no_long no_short) e =
+    by_lookup (plain not_dashes no_long no_short) e =
         absurd (some_fault kind.UnknownArgument [] (sym (plain_refused rows pending word not_dashes no_long no_short) ∙ e))
 
 words_given : (n : ℕ) (words : List Text) (rows : List Row) (pending : Option (Text × List Text)) → length words ≤ n → Passes (between rows pending) words → Given rows pending words

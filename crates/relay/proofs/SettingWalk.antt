@@ -81,19 +81,19 @@ number_settles Rows text rows range new = (rw (new, (plain_number 4096 text (ome
 number_settles Bytes text rows range new = (rw (new, (plain_number 4294967295 text (omega arith) range).signed) refl, used_once (codes "every") reading.WithoutMinus text rows new)
 
 -- `--name text`
-apart_walk : (k : Numbered) (text : Text) (rows : List Row) (pending : Option (Text × List Text)) → IsInRange (with_number k text)
+separate_walk : (k : Numbered) (text : Text) (rows : List Row) (pending : Option (Text × List Text)) → IsInRange (with_number k text)
     → walked_over (between rows pending) ((codes "--" ++ name_for k) ∷ text ∷ []) ≡ between (rows_at rows pending) (Some (name_for k, text ∷ []))
 unfolding command_line walked
-apart_walk Columns text rows pending range = let plain = plain_number 4096 text (omega arith) range in rw (plain.rest, plain.long, plain.short) refl
-apart_walk Rows text rows pending range = let plain = plain_number 4096 text (omega arith) range in rw (plain.rest, plain.long, plain.short) refl
-apart_walk Bytes text rows pending range = let plain = plain_number 4294967295 text (omega arith) range in rw (plain.rest, plain.long, plain.short) refl
+separate_walk Columns text rows pending range = let plain = plain_number 4096 text (omega arith) range in rw (plain.rest, plain.long, plain.short) refl
+separate_walk Rows text rows pending range = let plain = plain_number 4096 text (omega arith) range in rw (plain.rest, plain.long, plain.short) refl
+separate_walk Bytes text rows pending range = let plain = plain_number 4294967295 text (omega arith) range in rw (plain.rest, plain.long, plain.short) refl
 
-apart_fault : (k : Numbered) (text : Text) (rows : List Row) (pending : Option (Text × List Text)) → settling rows pending ≡ [] → IsInRange (with_number k text)
+separate_fault : (k : Numbered) (text : Text) (rows : List Row) (pending : Option (Text × List Text)) → settling rows pending ≡ [] → IsInRange (with_number k text)
     → walk_fault line [] (between rows pending) ((codes "--" ++ name_for k) ∷ text ∷ []) ≡ []
 unfolding command_line walked walk_fault
-apart_fault Columns text rows pending settles range = let plain = plain_number 4096 text (omega arith) range in rw (settles, plain.rest, plain.long, plain.short) refl
-apart_fault Rows text rows pending settles range = let plain = plain_number 4096 text (omega arith) range in rw (settles, plain.rest, plain.long, plain.short) refl
-apart_fault Bytes text rows pending settles range = let plain = plain_number 4294967295 text (omega arith) range in rw (settles, plain.rest, plain.long, plain.short) refl
+separate_fault Columns text rows pending settles range = let plain = plain_number 4096 text (omega arith) range in rw (settles, plain.rest, plain.long, plain.short) refl
+separate_fault Rows text rows pending settles range = let plain = plain_number 4096 text (omega arith) range in rw (settles, plain.rest, plain.long, plain.short) refl
+separate_fault Bytes text rows pending settles range = let plain = plain_number 4294967295 text (omega arith) range in rw (settles, plain.rest, plain.long, plain.short) refl
 
 -- `--name=text`
 abbrev pub joined : Numbered → Text → Text
@@ -140,8 +140,8 @@ number_leads k text words rows pending settles range new (inl is) =
     subst (Leads rows pending (with_number k text)) (sym is) (record {
       rows = rows_at rows pending;
       pending = Some (name_for k, text ∷ []);
-      walk = apart_walk k text rows pending range;
-      fault = apart_fault k text rows pending settles range;
+      walk = separate_walk k text rows pending range;
+      fault = separate_fault k text rows pending settles range;
       settles = last.0;
       rows_are = last.1;
     })

@@ -16,14 +16,14 @@ after_name None = []
 after_name (Some text) = codes "=" ++ text
 
 -- `--`; `--name` or `--name=text`; `-` with a character; `-` with bytes that begin none; or a plain word
-pub data Look (word : Text) : Type 0 where
-  dashes : word ≡ codes "--" → Look word
-  long : (name : Text) → (text : Option Text) → bytes_eq word (codes "--") ≡ false → long_of word ≡ Some (name, text) → word ≡ codes "--" ++ (name ++ after_name text) → Look word
+pub data Lookup (word : Text) : Type 0 where
+  dashes : word ≡ codes "--" → Lookup word
+  long : (name : Text) → (text : Option Text) → bytes_eq word (codes "--") ≡ false → long_of word ≡ Some (name, text) → word ≡ codes "--" ++ (name ++ after_name text) → Lookup word
   short : (byte : ℕ) → (flags : Text) → (x : ℕ) → bytes_eq word (codes "--") ≡ false → long_of word ≡ None → short_of word ≡ Some (byte ∷ flags)
-      → slice_get (chars (byte ∷ flags)) 0 ≡ Some x → Look word
+      → slice_get (chars (byte ∷ flags)) 0 ≡ Some x → Lookup word
   odd : (byte : ℕ) → (flags : Text) → bytes_eq word (codes "--") ≡ false → long_of word ≡ None → short_of word ≡ Some (byte ∷ flags)
-      → slice_get (chars (byte ∷ flags)) 0 ≡ None → Look word
-  plain : bytes_eq word (codes "--") ≡ false → long_of word ≡ None → short_of word ≡ None → Look word
+      → slice_get (chars (byte ∷ flags)) 0 ≡ None → Lookup word
+  plain : bytes_eq word (codes "--") ≡ false → long_of word ≡ None → short_of word ≡ None → Lookup word
 
 -- the byte is `=`
 abbrev is_sign : ℕ → Bool
@@ -47,31 +47,31 @@ parts (byte ∷ rest) = by_test (is_sign byte) refl (parts rest)
         let prefix : byte ∷ rest ≡ take (suc n) (byte ∷ rest) ++ after_name (cond (has_byte 61 rest) (Some (drop (suc (n + 1)) (byte ∷ rest))) None) = ap (λ r. byte ∷ r) more in
         rw e (prefix ∙ (λ i. take (one i) (byte ∷ rest) ++ after_name (cond (has_byte 61 rest) (Some (drop (two i) (byte ∷ rest))) None)))
 
-look_long : (rest : Text) → Look (45 ∷ 45 ∷ rest)
-look_long [] = dashes refl
-look_long (byte ∷ rest) = long (before_first is_sign (byte ∷ rest)) (text_after (byte ∷ rest)) refl refl (ap (λ r. 45 ∷ 45 ∷ r) (parts (byte ∷ rest)))
+lookup_long : (rest : Text) → Lookup (45 ∷ 45 ∷ rest)
+lookup_long [] = dashes refl
+lookup_long (byte ∷ rest) = long (before_first is_sign (byte ∷ rest)) (text_after (byte ∷ rest)) refl refl (ap (λ r. 45 ∷ 45 ∷ r) (parts (byte ∷ rest)))
 
-look_short : (byte : ℕ) (flags : Text) → (byte == 45) ≡ false → Look (45 ∷ byte ∷ flags)
-look_short byte flags e = by_first (slice_get (chars (byte ∷ flags)) 0) refl
+lookup_short : (byte : ℕ) (flags : Text) → (byte == 45) ≡ false → Lookup (45 ∷ byte ∷ flags)
+lookup_short byte flags e = by_first (slice_get (chars (byte ∷ flags)) 0) refl
   where
-    by_first : (first : Option ℕ) → slice_get (chars (byte ∷ flags)) 0 ≡ first → Look (45 ∷ byte ∷ flags)
+    by_first : (first : Option ℕ) → slice_get (chars (byte ∷ flags)) 0 ≡ first → Lookup (45 ∷ byte ∷ flags)
     by_first None is = odd byte flags (rw e refl) (rw e refl) (rw e refl) is
     by_first (Some x) is = short byte flags x (rw e refl) (rw e refl) (rw e refl) is
 
-look_flag : (rest : Text) → Look (45 ∷ rest)
-look_flag [] = plain refl refl refl
-look_flag (byte ∷ rest) = by_test (byte == 45) refl
+lookup_flag : (rest : Text) → Lookup (45 ∷ rest)
+lookup_flag [] = plain refl refl refl
+lookup_flag (byte ∷ rest) = by_test (byte == 45) refl
   where
-    by_test : (t : Bool) → (byte == 45) ≡ t → Look (45 ∷ byte ∷ rest)
-    by_test true e = subst (λ b. Look (45 ∷ b ∷ rest)) (sym (eqb-true byte 45 e)) (look_long rest)
-    by_test false e = look_short byte rest e
+    by_test : (t : Bool) → (byte == 45) ≡ t → Lookup (45 ∷ byte ∷ rest)
+    by_test true e = subst (λ b. Lookup (45 ∷ b ∷ rest)) (sym (eqb-true byte 45 e)) (lookup_long rest)
+    by_test false e = lookup_short byte rest e
 
-pub look : (word : Text) → Look word
-look [] = plain refl refl refl
-look (byte ∷ rest) = by_test (byte == 45) refl
+pub lookup : (word : Text) → Lookup word
+lookup [] = plain refl refl refl
+lookup (byte ∷ rest) = by_test (byte == 45) refl
   where
-    by_test : (t : Bool) → (byte == 45) ≡ t → Look (byte ∷ rest)
-    by_test true e = subst (λ b. Look (b ∷ rest)) (sym (eqb-true byte 45 e)) (look_flag rest)
+    by_test : (t : Bool) → (byte == 45) ≡ t → Lookup (byte ∷ rest)
+    by_test true e = subst (λ b. Lookup (b ∷ rest)) (sym (eqb-true byte 45 e)) (lookup_flag rest)
     by_test false e = plain (rw e refl) (rw e refl) (rw e refl)
 
 -- the names that the command line knows

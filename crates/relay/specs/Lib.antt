@@ -1,4 +1,5 @@
 pub mod CommandLine
+pub mod Faults
 pub mod Lent
 pub mod Output
 pub mod Settings

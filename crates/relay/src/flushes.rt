@@ -5,7 +5,7 @@ use std::io;
 use std::io::{ErrorKind, Write};
 use std::process::Abort;
 
-/// Takes all bytes, and fails after so many flushes.
+/// Takes all bytes, and fails after `flushes_left` flushes.
 #[derive(Drop)]
 struct Flushed {
     text: Vec<u8>,
@@ -46,8 +46,8 @@ const BOTH: &[u8] =
 
 const ROWS: &[u8] = b"foob\naarb\naz  \n";
 
-/// On some bytes and a writer that fails after so many flushes the words have that status, and this is written. With
-/// status 1 it is told that writing failed.
+/// On `input` and a writer that fails after `flushes` flushes the words have the `expected` status and output. With
+/// status 1 `faults` says that writing failed.
 fn assert_run<R: Abort + AllocGlobal>(
     rt: &R,
     words: &[&str],
@@ -60,8 +60,8 @@ fn assert_run<R: Abort + AllocGlobal>(
     let status = serve(rt.alloc(), words, &mut input, &mut output, &mut faults);
     assert_eq!(rt; status, expected.0);
     assert!(rt; output.text.as_slice() == expected.1);
-    let is_told = faults.text.as_slice() == b"relay: cannot write\n".as_slice();
-    assert_eq!(rt; is_told, status == 1);
+    let is_message = faults.text.as_slice() == b"relay: cannot write\n".as_slice();
+    assert_eq!(rt; is_message, status == 1);
 }
 
 #[test]
@@ -99,7 +99,7 @@ fn help_is_flushed_once(rt: HostRuntime) {
     }
 }
 
-// The words have that status where what is told can't be flushed.
+// The words have that status where the message can't be flushed.
 fn assert_untold<R: Abort + AllocGlobal>(rt: &R, words: &[&str], flushes: usize, expected: u8) {
     let mut output = writer_of(rt.alloc(), flushes);
     let mut faults = writer_of(rt.alloc(), 0);

@@ -46,8 +46,8 @@ pub fn numbers()
         ≡ true }
 {}
 
-/// A law, which needs no call: help is asked for, a number out of its range and an unknown option
-/// are refused.
+/// A law, which needs no call: `--help` displays help; a number out of its range and an unknown option are
+/// refused.
 pub fn refusals()
     ensures help { faults_in (codes "relay" ∷ codes "--help" ∷ []) ≡ DisplayHelp ∷ [] }
     ensures zero { faults_in (codes "relay" ∷ codes "--width" ∷ codes "0" ∷ []) ≡ ValueValidation ∷ [] }

@@ -1,9 +1,10 @@
 //! The program on its words and streams.
-ghost use Rattle.std.specs.Prelude.{false, ◌≡◌, ◌≢◌, ◌⊎◌, ◌≤◌, [], map, IfSome, OnOk, OnErr};
+ghost use Rattle.std.specs.Prelude.{false, ◌≡◌, ◌≢◌, ◌⊎◌, ◌↔◌, ◌≤◌, ◌^◌, [], map, IfSome, IsErrOf, IsTrue, OnOk, OnErr};
 ghost use Rattle.std.specs.Io.KnownBytes.{Appends, Keeps};
 ghost use Rattle.terminal.specs.Shown.{AppendsPrefix};
 ghost use Rattle.clap.specs.Words.{IsAmong, kind_of};
 ghost use Rattle.relay.specs.CommandLine.{HasMistake, faults_in};
+ghost use Rattle.relay.specs.Faults.{fault_line, fault_text};
 ghost use Rattle.relay.specs.Output.{written, written_in};
 
 use crate::lent::Lent;
@@ -29,7 +30,9 @@ pub fn tell<F: Write>(faults: &mut F, fault: &str) -> u8
     FAULT
 }
 
-fn write_line<F: Write>(faults: &mut F, fault: &str) -> io::Result<()> {
+fn write_line<F: Write>(faults: &mut F, fault: &str) -> io::Result<()>
+    ensures { OnOk result (Appends (F.contents faults.old) (F.contents faults.new) (fault_line fault.now)) }
+{
     faults.write_all(b"relay: ")?;
     faults.write_all(fault.as_bytes())?;
     faults.write_all(b"\n")?;
@@ -60,7 +63,9 @@ fn refuse<F: Write>(faults: &mut F, text: &str) -> u8
     BAD_WORDS
 }
 
-fn fault_of(error: RunError) -> &'static str {
+fn fault_of(error: RunError) -> &'static str
+    ensures { result.now ≡ fault_text error }
+{
     match error {
         RunError::Read => "cannot read",
         RunError::Write => "cannot write",
@@ -117,6 +122,12 @@ fn answer<R: Read, T: Write>(
         (IfSome (R.remaining reader.old.inner)
         (λ input. AppendsPrefix (T.contents writer.old.inner) (T.contents writer.new.inner)
         (written options.is_show options.width options.height options.every input))) }
+    ensures read { IsErrOf result RunError.Read ↔ IsTrue reader.new.has_failed }
+    ensures write { IsErrOf result RunError.Write ↔ IsTrue writer.new.has_failed }
+    ensures too_long { IsErrOf result RunError.TooLong → reader.new.reads ≡ 2 ^ 48 }
+    // After a fault of the reader or the writer it is not called again.
+    ensures ends_reads { reader.new.has_gone_on ≡ reader.old.has_gone_on }
+    ensures ends_writes { writer.new.has_gone_on ≡ writer.old.has_gone_on }
 {
     let Options {
         width,
@@ -156,7 +167,7 @@ fn relay<R: Read, T: Write>(
 }
 
 /// The program on its words, of which the first is its name, and on its streams. What the words ask
-/// for is written to `writer`: the updates of what the reader gives, one after each so many bytes and
+/// for is written to `writer`: the updates of what the reader gives, one after each `--every` bytes and
 /// one at the end, or with `--show` the rows of the screen at the end; or help, or the version.
 ///
 /// It answers the status: 0; or 1 with one line on `faults`, where reading, writing, memory or numbers

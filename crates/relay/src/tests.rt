@@ -91,17 +91,22 @@ const NOTHING: &[u8] = b"";
 struct Run {
     status: u8,
     text: Vec<u8>,
-    told: Vec<u8>,
+    message: Vec<u8>,
 }
 
-/// A run of the words on an input and on a writer that takes so many bytes at a time and fails after so many writes.
+/// A run of the words on an input and on a writer that takes `writes.0` bytes at a time and fails after `writes.1`
+/// writes.
 fn run_of<R: AllocGlobal>(rt: &R, words: &[&str], mut input: Input, writes: (usize, usize)) -> Run {
     let mut output = output_of(rt.alloc(), writes.0, writes.1);
     let mut faults = output_of(rt.alloc(), 100, 100);
     let status = serve(rt.alloc(), words, &mut input, &mut output, &mut faults);
     let Output { text, .. } = output;
-    let Output { text: told, .. } = faults;
-    Run { status, text, told }
+    let Output { text: message, .. } = faults;
+    Run {
+        status,
+        text,
+        message,
+    }
 }
 
 /// The run of the words has that status, and writes this and tells that.
@@ -115,7 +120,7 @@ fn assert_run<R: Abort + AllocGlobal>(
     let run = run_of(rt, words, input, writes);
     assert_eq!(rt; run.status, expected.0);
     assert_eq!(rt; run.text.as_slice(), expected.1);
-    assert_eq!(rt; run.told.as_slice(), expected.2);
+    assert_eq!(rt; run.message.as_slice(), expected.2);
 }
 
 #[test]
@@ -167,13 +172,13 @@ fn tells_of_a_read_that_fails(rt: HostRuntime) {
 
 /// A write fails after these bytes of the rows.
 fn assert_cut<R: Abort + AllocGlobal>(rt: &R, writes: (usize, usize), text: &[u8]) {
-    let told = b"relay: cannot write\n".as_slice();
+    let message = b"relay: cannot write\n".as_slice();
     assert_run(
         rt,
         &SHOW,
         input_in(INPUT, 100, 100),
         writes,
-        (1, text, told),
+        (1, text, message),
     );
 }
 
@@ -195,37 +200,37 @@ fn sends_the_updates(rt: HostRuntime) {
     assert_run(&rt, &SHOW[..5], nothing, (100, 100), (0, BLANK, NOTHING));
 }
 
-/// A run that ends early with status 1 writes so many of the first bytes of the updates, and tells that.
+/// A run that ends early with status 1 writes the first `count` bytes of the updates, and the message to `faults`.
 fn assert_ends_early<R: Abort + AllocGlobal>(
     rt: &R,
     reads_left: usize,
     writes: (usize, usize),
     count: usize,
-    told: &[u8],
+    message: &[u8],
 ) {
     let run = run_of(rt, &SEND, input_in(LETTERS, 100, reads_left), writes);
     assert_eq!(rt; run.status, 1);
-    assert_eq!(rt; run.told.as_slice(), told);
+    assert_eq!(rt; run.message.as_slice(), message);
     assert_eq!(rt; run.text.len(), count);
     assert!(rt; UPDATES.starts_with(run.text.as_slice()));
 }
 
 #[test]
 fn sends_the_updates_of_what_was_read(rt: HostRuntime) {
-    let told = b"relay: cannot read\n".as_slice();
-    assert_ends_early(&rt, 0, (100, 100), 0, told);
-    assert_ends_early(&rt, 1, (100, 100), FIRST, told);
-    assert_ends_early(&rt, 2, (100, 100), FIRST, told);
+    let message = b"relay: cannot read\n".as_slice();
+    assert_ends_early(&rt, 0, (100, 100), 0, message);
+    assert_ends_early(&rt, 1, (100, 100), FIRST, message);
+    assert_ends_early(&rt, 2, (100, 100), FIRST, message);
 }
 
 #[test]
 fn sends_updates_up_to_a_write_that_fails(rt: HostRuntime) {
-    let told = b"relay: cannot write\n".as_slice();
+    let message = b"relay: cannot write\n".as_slice();
     for writes in 0..UPDATES.len() {
-        assert_ends_early(&rt, 100, (1, writes), writes, told);
+        assert_ends_early(&rt, 100, (1, writes), writes, message);
     }
-    assert_ends_early(&rt, 100, (0, 100), 0, told);
-    assert_ends_early(&rt, 100, (100, 1), FIRST, told);
+    assert_ends_early(&rt, 100, (0, 100), 0, message);
+    assert_ends_early(&rt, 100, (100, 1), FIRST, message);
 }
 
 #[test]

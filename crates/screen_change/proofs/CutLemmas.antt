@@ -95,9 +95,9 @@ first_boundary n text rest u l e = IsCharBoundary-from_take text n u l (IsUtf8-f
 
 -- ---- clusters
 
-pub same_front : (ts xs ys : List (List ℕ)) → same_texts (ts ++ xs) (ts ++ ys) ≡ same_texts xs ys
-same_front [] xs ys = refl
-same_front (t ∷ ts) xs ys = ap (λ b. b && same_texts (ts ++ xs) (ts ++ ys)) ((bytes_eq-Decides t t).1 refl) ∙ same_front ts xs ys
+pub same_prefix : (ts xs ys : List (List ℕ)) → same_texts (ts ++ xs) (ts ++ ys) ≡ same_texts xs ys
+same_prefix [] xs ys = refl
+same_prefix (t ∷ ts) xs ys = ap (λ b. b && same_texts (ts ++ xs) (ts ++ ys)) ((bytes_eq-Decides t t).1 refl) ∙ same_prefix ts xs ys
 
 -- no cluster is left
 pub no_cluster : (text cell : List ℕ) (cells : List (List ℕ)) → text ≡ [] → same_texts (graphemes true text) (cell ∷ cells) ≡ false
@@ -124,7 +124,7 @@ pub following_bytes : (text prefix rest : List ℕ) (k : ℕ) → prefix ≡ tak
     → same_texts (graphemes true rest) (each rest) ≡ same_texts (graphemes true text) (each text)
 following_bytes text prefix rest k f r g =
     let whole : each text ≡ each prefix ++ each rest = ap each (sym (take-append-drop k text)) ∙ map-append (λ byte. byte ∷ []) (take k text) (drop k text) ∙ (λ i. each (sym f i) ++ each (sym r i)) in
-    sym (same_front (each prefix) (graphemes true rest) (each rest)) ∙ (λ i. same_texts (sym g i) (sym whole i))
+    sym (same_prefix (each prefix) (graphemes true rest) (each rest)) ∙ (λ i. same_texts (sym g i) (sym whole i))
 
 -- ---- cells that are clusters
 
@@ -135,8 +135,8 @@ one_is len k lens h =
     (λ t. let e = ap (λ b. cond b (1 + prefix_len (λ n. n == 1) lens) 0) t in absurd (omega (arith, e)))
 
 -- ones among the first few lengths are ones at the start
-pub ones_few : (lens first : List ℕ) (count few : ℕ) → first ≡ take few lens → count ≡ prefix_len (λ n. n == 1) first → count ≤ prefix_len (λ n. n == 1) lens
-ones_few lens first count few f c = let e = ap (prefix_len (λ n. n == 1)) f in omega (arith, e, prefix_taken (λ n. n == 1) few lens)
+pub ones_short : (lens first : List ℕ) (count short : ℕ) → first ≡ take short lens → count ≡ prefix_len (λ n. n == 1) first → count ≤ prefix_len (λ n. n == 1) lens
+ones_short lens first count short f c = let e = ap (prefix_len (λ n. n == 1)) f in omega (arith, e, prefix_taken (λ n. n == 1) short lens)
 
 pub cut_prefix : (k : ℕ) (lens text : List ℕ) → k ≤ prefix_len (λ n. n == 1) lens → k ≤ length text → cut_at lens text ≡ each (take k text) ++ cut_at (drop k lens) (drop k text)
 cut_prefix zero lens text p l = refl
@@ -147,10 +147,10 @@ cut_prefix (suc k) (len ∷ lens) (byte ∷ text) p l =
     ap (λ n. take n (byte ∷ text) ∷ cut_at lens (drop n (byte ∷ text))) one.0
     ∙ ap (λ (ts : List (List ℕ)). (byte ∷ []) ∷ ts) (cut_prefix k lens text one.1 (omega (arith, l)))
 
-pub bytes_front : (k : ℕ) (lens : List ℕ) → k ≤ prefix_len (λ n. n == 1) lens → k + bytes_of (drop k lens) ≡ bytes_of lens
-bytes_front zero lens p = omega arith
-bytes_front (suc k) [] p = absurd (omega (arith, p))
-bytes_front (suc k) (len ∷ lens) p = let one = one_is len k lens p in omega (arith, one.0, bytes_front k lens one.1)
+pub bytes_prefix : (k : ℕ) (lens : List ℕ) → k ≤ prefix_len (λ n. n == 1) lens → k + bytes_of (drop k lens) ≡ bytes_of lens
+bytes_prefix zero lens p = omega arith
+bytes_prefix (suc k) [] p = absurd (omega (arith, p))
+bytes_prefix (suc k) (len ∷ lens) p = let one = one_is len k lens p in omega (arith, one.0, bytes_prefix k lens one.1)
 
 -- what is left at a position, cell by cell
 left_first : (lens : List ℕ) (at n d : ℕ) → at < length lens → n ≡ get_or lens at d → drop at lens ≡ n ∷ drop (at + 1) lens
@@ -171,4 +171,4 @@ pub cells_after : (lens text prefix rest left : List ℕ) (k : ℕ) → k ≤ pr
     → graphemes true text ≡ each prefix ++ graphemes true rest → same_texts (graphemes true rest) (cut_at left rest) ≡ same_texts (graphemes true text) (cut_at lens text)
 cells_after lens text prefix rest left k p l f r d g =
     let whole : cut_at lens text ≡ each prefix ++ cut_at left rest = cut_prefix k lens text p l ∙ (λ i. each (sym f i) ++ cut_at (sym d i) (sym r i)) in
-    sym (same_front (each prefix) (graphemes true rest) (cut_at left rest)) ∙ (λ i. same_texts (sym g i) (sym whole i))
+    sym (same_prefix (each prefix) (graphemes true rest) (cut_at left rest)) ∙ (λ i. same_texts (sym g i) (sym whole i))

@@ -12,7 +12,7 @@ use denote.Enum.Bare.{Bare, sameb, same_true}
 use Rattle.cell_base.specs.declared.attribute_change.AttributeChange.{AttributeChange}
 use Rattle.cell_base.specs.declared.attribute_change.AttributeChange.TheVariants as attribute
 use Rattle.cell_base.specs.declared.attributes.Position.{Position}
-use Rattle.cell_base.specs.declared.attributes.Position.TheVariants as place
+use Rattle.cell_base.specs.declared.attributes.Position.TheVariants as position
 use Rattle.cell_base.specs.declared.color.ColorAttribute.{ColorAttribute}
 use Rattle.cell_base.specs.declared.color.ColorAttribute.TheVariants as color
 use Rattle.cell_base.specs.declared.color.SrgbaTuple.{SrgbaTuple}
@@ -23,7 +23,7 @@ use Rattle.cell_base.specs.contracts.attributes.Blink as blink
 use Rattle.cell_base.specs.contracts.attributes.CursorShape as shape
 use Rattle.cell_base.specs.contracts.attributes.CursorVisibility as visibility
 use Rattle.cell_base.specs.contracts.attributes.LineAttribute as line
-use Rattle.cell_base.specs.contracts.attributes.PositionPartialEq.TheImpl as place_impl
+use Rattle.cell_base.specs.contracts.attributes.PositionPartialEq.TheImpl as position_impl
 use Rattle.cell_base.specs.AttributeValue as value
 use Rattle.cell_base.specs.AttributeValueOf.{attribute_value}
 use Rattle.cell_base.specs.SameAttributes.{same_attributes_decides}
@@ -69,11 +69,11 @@ color_eq (color.TrueColorWithPaletteFallback x m) (color.TrueColorWithPaletteFal
     (λ e. let h = d.0 e in λ i. color.TrueColorWithPaletteFallback (h.0 i) (h.1 i), λ e. d.1 (cc, cc))
 color_eq x y = (λ e. absurd (false≢true e), λ e. cc)
 
-place_eq : (x y : Position) → Decides (place_impl.ghosts.eq x y) (x ≡ y)
-place_eq (place.Relative m) (place.Relative n) = one place.Relative m n _ (λ e. cc) (Decides-int_eq m n)
-place_eq (place.Absolute m) (place.Absolute n) = one place.Absolute m n _ (λ e. cc) (numbers m n)
-place_eq (place.EndRelative m) (place.EndRelative n) = one place.EndRelative m n _ (λ e. cc) (numbers m n)
-place_eq x y = (λ e. absurd (false≢true e), λ e. cc)
+position_eq : (x y : Position) → Decides (position_impl.ghosts.eq x y) (x ≡ y)
+position_eq (position.Relative m) (position.Relative n) = one position.Relative m n _ (λ e. cc) (Decides-int_eq m n)
+position_eq (position.Absolute m) (position.Absolute n) = one position.Absolute m n _ (λ e. cc) (numbers m n)
+position_eq (position.EndRelative m) (position.EndRelative n) = one position.EndRelative m n _ (λ e. cc) (numbers m n)
+position_eq x y = (λ e. absurd (false≢true e), λ e. cc)
 
 switch_eq : (x y : Bool) → Decides (derived.ghosts.eq (of.Attribute (attribute.Italic x)) (of.Attribute (attribute.Italic y))) (x ≡ y)
 switch_eq true true = (λ e. refl, λ e. refl)
@@ -114,7 +114,7 @@ change_eq (of.ClearScreen x) (of.ClearScreen y) = one to.ClearScreen x y _ (λ e
 change_eq (of.ClearToEndOfLine x) (of.ClearToEndOfLine y) = one to.ClearToEndOfLine x y _ (λ e. cc) (color_eq x y)
 change_eq (of.ClearToEndOfScreen x) (of.ClearToEndOfScreen y) = one to.ClearToEndOfScreen x y _ (λ e. cc) (color_eq x y)
 change_eq (of.CursorPosition x v) (of.CursorPosition y w) =
-    let d = both (place_impl.ghosts.eq x y) (place_impl.ghosts.eq v w) (place_eq x y) (place_eq v w) in
+    let d = both (position_impl.ghosts.eq x y) (position_impl.ghosts.eq v w) (position_eq x y) (position_eq v w) in
     (λ e. let h = d.0 e in λ i. to.CursorPosition (h.0 i) (h.1 i), λ e. d.1 (cc, cc))
 change_eq (of.CursorColor x) (of.CursorColor y) = one to.CursorColor x y _ (λ e. cc) (color_eq x y)
 change_eq (of.CursorShape x) (of.CursorShape y) = one to.CursorShape x y _ (λ e. cc) (bare shape.the_type tt x y)

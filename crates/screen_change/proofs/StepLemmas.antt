@@ -13,7 +13,7 @@ use Rattle.text_clusters.specs.Plain.{each, is_printable}
 use Rattle.text_clusters.proofs.PlainLemmas.{printable_below}
 use Rattle.screen_change.specs.ChangeValue.{ChangeValue, Text}
 use Rattle.screen_change.specs.Cuts.{cut_at, bytes_of}
-use Rattle.screen_change.specs.Texts.{same_texts, stay_apart, texts}
+use Rattle.screen_change.specs.Texts.{same_texts, stay_independent, texts}
 use Rattle.screen_change.specs.declared.cut_cells.CutCells.{CutCells}
 use Rattle.screen_change.proofs.CutLemmas.{bytes_of-append, bytes_of-ones, cut_more, cut_ones, cut_push, concat-cut, cut_none, none_cut, utf8_more, utf8_push}
 use Rattle.screen_change.proofs.TextLemmas.{no_texts, one_text, each_text}
@@ -118,25 +118,25 @@ sized_cells text more now lens lens_now b n e f all l h =
 
 -- ---- the texts that write the cells
 
-pub apart_cut : (lens text : List ℕ) → same_texts (graphemes true text) (cut_at lens text) ≡ stay_apart (cut_at lens text)
-apart_cut lens text = ap (λ (t : List ℕ). same_texts (graphemes true t) (cut_at lens text)) (sym (concat-cut lens text))
+pub independent_cut : (lens text : List ℕ) → same_texts (graphemes true text) (cut_at lens text) ≡ stay_independent (cut_at lens text)
+independent_cut lens text = ap (λ (t : List ℕ). same_texts (graphemes true t) (cut_at lens text)) (sym (concat-cut lens text))
 
 pub texts_none : (cells : List (List ℕ)) → cells ≡ [] → texts cells ≡ []
 texts_none cells e = ap texts e ∙ no_texts
 
-pub texts_one : (cells : List (List ℕ)) → (cells ≡ [] → ⊥) → stay_apart cells ≡ true → texts cells ≡ concat cells ∷ []
+pub texts_one : (cells : List (List ℕ)) → (cells ≡ [] → ⊥) → stay_independent cells ≡ true → texts cells ≡ concat cells ∷ []
 texts_one [] some e = absurd (some refl)
 texts_one (cell ∷ cells) some e = one_text cell cells e
 
-pub texts_each : (cells : List (List ℕ)) → stay_apart cells ≡ false → texts cells ≡ cells
+pub texts_each : (cells : List (List ℕ)) → stay_independent cells ≡ false → texts cells ≡ cells
 texts_each [] e = no_texts
 texts_each (cell ∷ cells) e = each_text cell cells e
 
-pub one_written : (old now : List ChangeValue) (text : List ℕ) (cells : List (List ℕ)) → (cells ≡ [] → ⊥) → stay_apart cells ≡ true → text ≡ concat cells → now ≡ old ++ Text text ∷ [] → now ≡ old ++ map Text (texts cells)
+pub one_written : (old now : List ChangeValue) (text : List ℕ) (cells : List (List ℕ)) → (cells ≡ [] → ⊥) → stay_independent cells ≡ true → text ≡ concat cells → now ≡ old ++ Text text ∷ [] → now ≡ old ++ map Text (texts cells)
 one_written old now text cells some e t n =
     n ∙ ap (λ (bytes : List ℕ). old ++ Text bytes ∷ []) t ∙ ap (λ (ts : List (List ℕ)). old ++ map Text ts) (sym (texts_one cells some e))
 
-pub each_written : (old now : List ChangeValue) (cells : List (List ℕ)) → stay_apart cells ≡ false → now ≡ old ++ map Text cells → now ≡ old ++ map Text (texts cells)
+pub each_written : (old now : List ChangeValue) (cells : List (List ℕ)) → stay_independent cells ≡ false → now ≡ old ++ map Text cells → now ≡ old ++ map Text (texts cells)
 each_written old now cells e n = n ∙ ap (λ (ts : List (List ℕ)). old ++ map Text ts) (sym (texts_each cells e))
 
 pub nothing_written : (old : List ChangeValue) (cells : List (List ℕ)) → cells ≡ [] → old ≡ old ++ map Text (texts cells)

@@ -7,7 +7,7 @@ use Rattle.std.proofs.lemmas.List.{append-nil}
 use Rattle.std.proofs.lemmas.Bool.{and_parts, false≢true}
 use Rattle.std.proofs.lemmas.Slice.Eq.{bytes_eq-Decides}
 use Rattle.unicode_segmentation.specs.Grapheme.{graphemes}
-use Rattle.screen_change.specs.Texts.{same_texts, stay_apart, texts}
+use Rattle.screen_change.specs.Texts.{same_texts, stay_independent, texts}
 
 -- both answers of a test
 pub by_test : {P : Type 0} (b : Bool) → (b ≡ true → P) → (b ≡ false → P) → P
@@ -29,18 +29,18 @@ pub no_texts : texts [] ≡ []
 unfolding texts
 no_texts = refl
 
-pub one_text : (cell : List ℕ) (cells : List (List ℕ)) → stay_apart (cell ∷ cells) ≡ true → texts (cell ∷ cells) ≡ concat (cell ∷ cells) ∷ []
+pub one_text : (cell : List ℕ) (cells : List (List ℕ)) → stay_independent (cell ∷ cells) ≡ true → texts (cell ∷ cells) ≡ concat (cell ∷ cells) ∷ []
 unfolding texts
 one_text cell cells e = ap (λ t. if t then concat (cell ∷ cells) ∷ [] else cell ∷ cells) e
 
-pub each_text : (cell : List ℕ) (cells : List (List ℕ)) → stay_apart (cell ∷ cells) ≡ false → texts (cell ∷ cells) ≡ cell ∷ cells
+pub each_text : (cell : List ℕ) (cells : List (List ℕ)) → stay_independent (cell ∷ cells) ≡ false → texts (cell ∷ cells) ≡ cell ∷ cells
 unfolding texts
 each_text cell cells e = ap (λ t. if t then concat (cell ∷ cells) ∷ [] else cell ∷ cells) e
 
 pub bytes_of_texts : (cells : List (List ℕ)) → concat (texts cells) ≡ concat cells
 bytes_of_texts [] = ap concat no_texts
 bytes_of_texts (cell ∷ cells) =
-    by_test (stay_apart (cell ∷ cells))
+    by_test (stay_independent (cell ∷ cells))
     (λ e. ap concat (one_text cell cells e) ∙ append-nil (concat (cell ∷ cells)))
     (λ e. ap concat (each_text cell cells e))
 
@@ -55,7 +55,7 @@ flat_alone (x ∷ xs) = ap (λ (ys : List (List ℕ)). x ∷ ys) (flat_alone xs)
 pub clusters_of_texts : (cells : List (List ℕ)) → map (graphemes true) cells ≡ map (λ cell. cell ∷ []) cells → flat_map (graphemes true) (texts cells) ≡ cells
 clusters_of_texts [] p = ap (flat_map (graphemes true)) no_texts
 clusters_of_texts (cell ∷ cells) p =
-    by_test (stay_apart (cell ∷ cells))
+    by_test (stay_independent (cell ∷ cells))
     (λ e.
     ap (flat_map (graphemes true)) (one_text cell cells e)
     ∙ append-nil (graphemes true (concat (cell ∷ cells)))

@@ -32,8 +32,8 @@ abbrev pub clear_due : ColorAttribute → List ChangeValue
 clear_due Default = []
 clear_due color = ClearToEndOfLine color ∷ []
 
--- the changes of cells and of the blanks after them; the attributes of the blanks are said unless they are the only
--- cells
+-- the changes that write cells and the blanks after them; they set the blanks' attributes, unless there are no cells
+-- before the blanks
 abbrev pub cleared_written : Attributes → List CellContent → Option ColorAttribute → List ChangeValue
 cleared_written pen cells None = cells_written pen cells
 cleared_written pen [] (Some color) = clear_due color

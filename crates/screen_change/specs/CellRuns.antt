@@ -25,7 +25,7 @@ abbrev pub cell_runs : List CellContent → List CellRun
 cell_runs [] = []
 cell_runs (cell ∷ cells) = before_runs cell (cell_runs cells)
 
--- whether a cell is one space, plain but for this background
+-- whether a cell is one space with attributes that are plain except this background
 unfoldable pub is_blank_of : ColorAttribute → CellContent → Bool
 is_blank_of color cell = bytes_eq cell.text space && same_attributes cell.attributes (blank_of color)
 

@@ -12,11 +12,11 @@ same_texts (x ∷ xs) [] = false
 same_texts (x ∷ xs) (y ∷ ys) = bytes_eq x y && same_texts xs ys
 
 -- whether the clusters (UAX 29) of the joined text are the texts themselves
-abbrev pub stay_apart : List (List ℕ) → Bool
-stay_apart texts = same_texts (graphemes true (concat texts)) texts
+abbrev pub stay_independent : List (List ℕ) → Bool
+stay_independent texts = same_texts (graphemes true (concat texts)) texts
 
 -- the texts by which cells are written, from the texts of the cells: their joined text if its clusters are the cells'
 -- texts, else one for each cell; for no cell none
 unfoldable pub texts : List (List ℕ) → List (List ℕ)
 texts [] = []
-texts (cell ∷ cells) = if stay_apart (cell ∷ cells) then concat (cell ∷ cells) ∷ [] else cell ∷ cells
+texts (cell ∷ cells) = if stay_independent (cell ∷ cells) then concat (cell ∷ cells) ∷ [] else cell ∷ cells

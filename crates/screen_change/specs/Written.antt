@@ -16,7 +16,7 @@ pub record Written : Type 0 where
 abbrev pub begun : Attributes → Written
 begun pen = record { changes = []; pen = pen; cells = [] }
 
--- all changes: those so far, and the texts of the cells
+-- all changes: the changes so far, and the texts of the cells
 abbrev pub finished : Written → List ChangeValue
 finished written = written.changes ++ map Text (texts written.cells)
 

@@ -46,7 +46,7 @@ impl<'a> CellWriter<'a> {
         }
     }
 
-    /// Ends the texts of the cells so far: what is written next isn't joined to them.
+    /// Ends the texts of the cells so far: cells written next aren't joined to them.
     pub fn end_texts(&mut self) -> Result<(), AllocError>
         ensures { OnOk result (self.new ≡ record self.old { changes = finished self.old; cells = [] }) }
     {

@@ -9,8 +9,8 @@ use cell_base::{
 };
 use std::alloc::{AllocError, Global};
 
-/// What is asked of a screen. Columns and rows count from 0; a colour is that after the blanks that
-/// a clear leaves.
+/// A change of a screen. Columns and rows count from 0; the colour of a clear is the background of
+/// the blanks that it leaves.
 #[derive(Debug, Drop, PartialEq, Eq)]
 pub enum Change {
     /// One attribute of the pen.
@@ -44,7 +44,7 @@ pub enum Change {
     ScrollRegionUp {
         /// The region's first row, counted from 0.
         first_row: usize,
-        /// How many rows the region has; those past the last one aren't there.
+        /// The number of rows of the region; rows past the screen's last row don't exist.
         region_size: usize,
         /// By how many rows they move, at most by all of them.
         scroll_count: usize,
@@ -53,7 +53,7 @@ pub enum Change {
     ScrollRegionDown {
         /// The region's first row, counted from 0.
         first_row: usize,
-        /// How many rows the region has; those past the last one aren't there.
+        /// The number of rows of the region; rows past the screen's last row don't exist.
         region_size: usize,
         /// By how many rows they move, at most by all of them.
         scroll_count: usize,

@@ -6,7 +6,7 @@ ghost use Rattle.std.specs.String.{string_bytes, string_len};
 ghost use Rattle.text_clusters.specs.Plain.{each};
 ghost use Rattle.screen_change.specs.Cuts.{cut_at, bytes_of};
 ghost use Rattle.screen_change.specs.ChangeValue.{Text};
-ghost use Rattle.screen_change.specs.Texts.{texts, stay_apart};
+ghost use Rattle.screen_change.specs.Texts.{texts, stay_independent};
 ghost use Rattle.screen_change.specs.ValueOf.{value_of};
 
 use crate::change::Change;
@@ -93,8 +93,8 @@ impl CutCells {
     }
 
     // Whether the clusters (UAX 29) of the joined text are the cells' texts.
-    pub(crate) fn stay_apart(&self) -> bool
-        ensures { result ≡ stay_apart (cells_of self.now) }
+    pub(crate) fn stay_independent(&self) -> bool
+        ensures { result ≡ stay_independent (cells_of self.now) }
     {
         has_clusters(&self.text, &self.lens)
     }
@@ -141,7 +141,7 @@ impl CutCells {
         if self.is_empty() {
             return Ok(());
         }
-        if self.stay_apart() {
+        if self.stay_independent() {
             changes.push(Change::Text(self.take_text(alloc)))?;
             return Ok(());
         }

@@ -18,9 +18,9 @@ pub fn joined_texts_show_the_cells()
         → flat_map (graphemes true) (texts cells) ≡ cells }
 {}
 
-/// What a writer makes of cells that are pushed one after another, with nothing open before them:
-/// the changes that write the cells by their runs, after those that were there; and the pen after
-/// them is that of the last cell.
+/// A writer that has no open cells turns cells pushed one after another into the changes that write
+/// the cells by their runs, after the changes that it had; its pen after them is that of the last
+/// cell.
 pub fn pushed_cells_are_written_by_runs()
     ensures changes { (written : Written) (cells : List CellContent) → written.cells ≡ []
         → finished (with_cells written cells) ≡ written.changes ++ cells_written written.pen cells }

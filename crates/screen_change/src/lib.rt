@@ -1,4 +1,4 @@
-//! Changes: what is asked of a screen, as a value.
+//! Changes of a screen as values.
 #![tactic(auto)]
 
 mod cell_writer;

@@ -14,7 +14,7 @@ use crate::change::Change;
 use std::alloc::{AllocError, Global};
 use text_clusters::{split_first_cluster, split_plain};
 
-// What follows the first cluster of a text, where that has so many bytes.
+// The text after its first cluster, where this cluster has `len` bytes.
 fn after_cluster(text: &str, len: usize) -> Option<&str>
     requires { len ≤ length text.now }
     ensures rest { IfSome result (λ rest. rest.now ≡ drop len text.now) }
@@ -44,15 +44,15 @@ fn are_bytes(text: &str) -> bool
     true
 }
 
-// So many cells are looked at together at most.
-const FEW: usize = 32;
+// The largest number of cells tested together.
+const SHORT: usize = 32;
 
 // The first few lengths, or all if there are fewer.
 #[tactic(auto, using(std::proofs::lemmas::List::take_min))]
-fn first_few(lens: &[usize]) -> &[usize]
-    ensures { result.now ≡ take FEW lens.now }
+fn first_short(lens: &[usize]) -> &[usize]
+    ensures { result.now ≡ take SHORT lens.now }
 {
-    &lens[..FEW.min(lens.len())]
+    &lens[..SHORT.min(lens.len())]
 }
 
 // How many of the first lengths are 1.
@@ -70,7 +70,7 @@ fn after_plain<'a>(text: &'a str, lens: &'a [usize]) -> (&'a str, &'a [usize])
     ensures same { same_texts (graphemes true result.0.now) (cut_at result.1.now result.0.now)
         ≡ same_texts (graphemes true text.now) (cut_at lens.now text.now) }
 {
-    let (prefix, rest) = split_plain(text, ones(first_few(lens)));
+    let (prefix, rest) = split_plain(text, ones(first_short(lens)));
     let (_, left) = lens.split_at(prefix.len());
     (rest, left)
 }

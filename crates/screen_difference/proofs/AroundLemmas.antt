@@ -76,11 +76,11 @@ start_taken zero r = refl
 start_taken (suc n) [] = refl
 start_taken (suc n) (x ∷ r) = refl
 
-front_alone : (a b : ℕ) (row : Row) → a ≤ b → columns_from a (b - a) row ≡ closed_end (closed_start (take (b - a) (drop a row)))
-front_alone a b row h = ap closed_end (start_taken (b - a) (drop a row))
+prefix_alone : (a b : ℕ) (row : Row) → a ≤ b → columns_from a (b - a) row ≡ closed_end (closed_start (take (b - a) (drop a row)))
+prefix_alone a b row h = ap closed_end (start_taken (b - a) (drop a row))
 
-taken_front : (a n : ℕ) (row : Row) → take n (drop a row) ≡ drop a (take (a + n) row)
-taken_front a n row = sym (drop-take a n row)
+taken_prefix : (a n : ℕ) (row : Row) → take n (drop a row) ≡ drop a (take (a + n) row)
+taken_prefix a n row = sym (drop-take a n row)
 
 -- ---- fresh cells
 
@@ -103,29 +103,29 @@ skip_old o olds (v ∷ news) p =
     let rest : fresh (o ∷ olds) news ≡ fresh olds news = skip_old o olds news (from_lower (o.column + 1) (v.column + 1) news (omega (arith, q)) p.1) in
     (λ i. if not (not_here o olds v (inl (omega (arith, q))) i) then v ∷ rest i else rest i)
 
-front_old : (a : ℕ) (prefix olds : Row) (news : List VisibleCell) → AreInOrder (a + length prefix) news → fresh (visible_from a (prefix ++ olds)) news ≡ fresh (visible_from (a + length prefix) olds) news
-front_old a [] olds news p = let e : a ≡ a + 0 = omega arith in ap (λ n. fresh (visible_from n olds) news) e
-front_old a (Narrow t b ∷ prefix) olds news p =
+prefix_old : (a : ℕ) (prefix olds : Row) (news : List VisibleCell) → AreInOrder (a + length prefix) news → fresh (visible_from a (prefix ++ olds)) news ≡ fresh (visible_from (a + length prefix) olds) news
+prefix_old a [] olds news p = let e : a ≡ a + 0 = omega arith in ap (λ n. fresh (visible_from n olds) news) e
+prefix_old a (Narrow t b ∷ prefix) olds news p =
     let e : a + 1 + length prefix ≡ a + suc (length prefix) = omega arith in
     skip_old (visible_at a t 1 b) (visible_from (a + 1) (prefix ++ olds)) news (from_lower (a + 1) (a + suc (length prefix)) news (omega arith) p)
-    ∙ front_old (a + 1) prefix olds news (subst (λ n. AreInOrder n news) (sym e) p) ∙ ap (λ n. fresh (visible_from n olds) news) e
-front_old a (LeftHalf t b ∷ prefix) olds news p =
+    ∙ prefix_old (a + 1) prefix olds news (subst (λ n. AreInOrder n news) (sym e) p) ∙ ap (λ n. fresh (visible_from n olds) news) e
+prefix_old a (LeftHalf t b ∷ prefix) olds news p =
     let e : a + 1 + length prefix ≡ a + suc (length prefix) = omega arith in
     skip_old (visible_at a t 2 b) (visible_from (a + 1) (prefix ++ olds)) news (from_lower (a + 1) (a + suc (length prefix)) news (omega arith) p)
-    ∙ front_old (a + 1) prefix olds news (subst (λ n. AreInOrder n news) (sym e) p) ∙ ap (λ n. fresh (visible_from n olds) news) e
-front_old a (RightHalf b ∷ prefix) olds news p =
+    ∙ prefix_old (a + 1) prefix olds news (subst (λ n. AreInOrder n news) (sym e) p) ∙ ap (λ n. fresh (visible_from n olds) news) e
+prefix_old a (RightHalf b ∷ prefix) olds news p =
     let e : a + 1 + length prefix ≡ a + suc (length prefix) = omega arith in
-    front_old (a + 1) prefix olds news (subst (λ n. AreInOrder n news) (sym e) p) ∙ ap (λ n. fresh (visible_from n olds) news) e
+    prefix_old (a + 1) prefix olds news (subst (λ n. AreInOrder n news) (sym e) p) ∙ ap (λ n. fresh (visible_from n olds) news) e
 
 -- cells before that both rows have aren't fresh
-fresh_front : (a m : ℕ) (prefix olds news : Row) → a + length prefix ≡ m → fresh (visible_from a (prefix ++ olds)) (visible_from a (prefix ++ news)) ≡ fresh (visible_from m olds) (visible_from m news)
-fresh_front a m prefix olds news e =
+fresh_prefix : (a m : ℕ) (prefix olds news : Row) → a + length prefix ≡ m → fresh (visible_from a (prefix ++ olds)) (visible_from a (prefix ++ news)) ≡ fresh (visible_from m olds) (visible_from m news)
+fresh_prefix a m prefix olds news e =
     let n = a + length prefix in
     let all : List VisibleCell = visible_from a (prefix ++ olds) in
     ap (fresh all) (visible-append a prefix news)
     ∙ fresh-append all (visible_from a prefix) (visible_from n news)
     ∙ ap (λ (vs : List VisibleCell). vs ++ fresh all (visible_from n news)) (ap (λ (cells : List VisibleCell). fresh cells (visible_from a prefix)) (visible-append a prefix olds) ∙ all_shown [] (visible_from a prefix) (visible_from n olds))
-    ∙ front_old a prefix olds (visible_from n news) (in_order n news)
+    ∙ prefix_old a prefix olds (visible_from n news) (in_order n news)
     ∙ ap (λ k. fresh (visible_from k olds) (visible_from k news)) e
 
 -- old cells after all new ones are of no concern
@@ -173,12 +173,12 @@ same_between a b old new e = ap (λ (r : Row). fresh (visible_from a r) (visible
 fewer : (old new : Row) (i n : ℕ) → i ≤ n → take n old ≡ take n new → take i old ≡ take i new
 fewer old new i n h e = sym (take-take i n old h) ∙ ap (take i) e ∙ take-take i n new h
 
-same_in_front : (a b m : ℕ) (old new : Row) → a ≤ b → b ≤ m → take m old ≡ take m new → between a b old new ≡ []
-same_in_front a b m old new h k e =
+same_in_prefix : (a b m : ℕ) (old new : Row) → a ≤ b → b ≤ m → take m old ≡ take m new → between a b old new ≡ []
+same_in_prefix a b m old new h k e =
     let seam : a + (b - a) ≡ b = omega (arith, h) in
     let same : take (b - a) (drop a old) ≡ take (b - a) (drop a new) =
-    taken_front a (b - a) old ∙ ap (λ n. drop a (take n old)) seam ∙ ap (drop a) (fewer old new b m k e) ∙ ap (λ n. drop a (take n new)) (sym seam) ∙ sym (taken_front a (b - a) new) in
-    same_between a b old new (front_alone a b old h ∙ ap (λ (r : Row). closed_end (closed_start r)) same ∙ sym (front_alone a b new h))
+    taken_prefix a (b - a) old ∙ ap (λ n. drop a (take n old)) seam ∙ ap (drop a) (fewer old new b m k e) ∙ ap (λ n. drop a (take n new)) (sym seam) ∙ sym (taken_prefix a (b - a) new) in
+    same_between a b old new (prefix_alone a b old h ∙ ap (λ (r : Row). closed_end (closed_start r)) same ∙ sym (prefix_alone a b new h))
 
 more : (old new : Row) (m a : ℕ) → m ≤ a → drop m old ≡ drop m new → drop a old ≡ drop a new
 more old new m a h e =
@@ -208,12 +208,12 @@ module _ (m : ℕ) (row : Row) (w : IsWholeAt m row) where
   row_after b l = ap (λ (r : Row). columns_from m (b - m) r) (sym in_two) ∙ after_seam m b (take m row) (drop m row) (length-take-le m row l) w.beginning
 
 -- columns before the first one that differs may be left out
-less_front : (a m b : ℕ) (old new : Row) → a ≤ m → m ≤ b → m ≤ length old → m ≤ length new → IsWholeAt m old → IsWholeAt m new → take m old ≡ take m new → between m b old new ≡ between a b old new
-less_front a m b old new h k l g w v e =
+less_prefix : (a m b : ℕ) (old new : Row) → a ≤ m → m ≤ b → m ≤ length old → m ≤ length new → IsWholeAt m old → IsWholeAt m new → take m old ≡ take m new → between m b old new ≡ between a b old new
+less_prefix a m b old new h k l g w v e =
     let prefix : Row = closed_start (drop a (take m old)) in
     let long : length prefix ≡ m - a = length-closed_start (drop a (take m old)) ∙ length-drop a (take m old) ∙ ap (λ n. n - a) (length-take-le m old l) in
     let other : columns_from a (b - a) new ≡ prefix ++ columns_from m (b - m) new = row_across m new v a b h k g ∙ ap (λ (r : Row). closed_start (drop a r) ++ columns_from m (b - m) new) (sym e) in
-    sym ((λ i. fresh (visible_from a (row_across m old w a b h k l i)) (visible_from a (other i))) ∙ fresh_front a m prefix (columns_from m (b - m) old) (columns_from m (b - m) new) (omega (arith, long, h)))
+    sym ((λ i. fresh (visible_from a (row_across m old w a b h k l i)) (visible_from a (other i))) ∙ fresh_prefix a m prefix (columns_from m (b - m) old) (columns_from m (b - m) new) (omega (arith, long, h)))
 
 -- and so may those after the last one
 less_back : (a m b : ℕ) (old new : Row) → a ≤ m → m ≤ b → m ≤ length old → m ≤ length new → IsWholeAt m old → IsWholeAt m new → drop m old ≡ drop m new → between a m old new ≡ between a b old new
@@ -236,14 +236,14 @@ module _ (x close start stop from to : ℕ) (old new : Row) (p : AreEqualAround 
     | inl less ↦ elim (cases_lt x start) [
       | inl inside ↦ (
           let is : from ≡ start = omega (arith, f, o, less, inside) in
-          ap (λ n. between n close old new) is ∙ less_front x start close old new (omega (arith, inside)) (omega (arith, less)) (omega (arith, less, l)) (omega (arith, less, g)) p.first p.other_first p.prefix)
+          ap (λ n. between n close old new) is ∙ less_prefix x start close old new (omega (arith, inside)) (omega (arith, less)) (omega (arith, less, l)) (omega (arith, less, g)) p.first p.other_first p.prefix)
       | inr before ↦ (
           let is : from ≡ x = omega (arith, f, o, before) in
           ap (λ n. between n close old new) is)
     ]
     | inr past ↦ (
         let is : from ≡ close = omega (arith, f, o, past) in
-        ap (λ n. between n close old new) is ∙ none_between close old new ∙ sym (same_in_front x close start old new o past p.prefix))
+        ap (λ n. between n close old new) is ∙ none_between close old new ∙ sym (same_in_prefix x close start old new o past p.prefix))
   ]
 
   to_last : between from to old new ≡ between from close old new

@@ -18,7 +18,7 @@ use Rattle.cell_base.specs.Screen.{Screen, height, line_feed, carriage_return, c
 use Rattle.screen_change.specs.CellChanges.{attributes_due, cells_written, last_pen, runs_written}
 use Rattle.screen_change.specs.CellRuns.{CellRun, before_runs, cell_runs}
 use Rattle.screen_change.specs.ChangeValue.{ChangeValue, AllAttributes, Text}
-use Rattle.screen_change.specs.Texts.{stay_apart, texts}
+use Rattle.screen_change.specs.Texts.{stay_independent, texts}
 use Rattle.screen_change.proofs.TextLemmas.{by_test, each_text, no_texts, one_text, same_texts_are}
 use Rattle.screen_effects.specs.Display.{Display}
 use Rattle.screen_effects.specs.Strokes.{Stroke, Cluster, TextPart, Control, Plain, needs_next_row, part_strokes, scrolls, stroke_done, stroke_on, strokes, text_parts, with_byte}
@@ -45,8 +45,8 @@ after width_of column [] = column
 after width_of column (text ∷ texts) = after width_of (column + text_width width_of text) texts
 
 -- the cursor goes after them
-abbrev pub gone_after : (List ℕ → ℕ) → List (List ℕ) → Stand → Stand
-gone_after width_of texts at = record at { column = after width_of at.column texts }
+abbrev pub dropped_after : (List ℕ → ℕ) → List (List ℕ) → Stand → Stand
+dropped_after width_of texts at = record at { column = after width_of at.column texts }
 
 module _ (width_of : List ℕ → ℕ) where
   after_grows : (ts : List (List ℕ)) (column : ℕ) → column ≤ after width_of column ts
@@ -119,7 +119,7 @@ module _ (width_of : List ℕ → ℕ) where
   cluster_still : (s : Screen) (t : List ℕ) → s.column + text_width width_of t ≤ s.width → scrolls width_of s (Cluster t) ≡ false
   cluster_still s t fits = ap (λ b. s.row + 1 == height s && b) (stays s t fits) ∙ and_false (s.row + 1 == height s)
 
-  cluster_leaves : (s : Screen) (t : List ℕ) → s.column + text_width width_of t ≤ s.width → stand_of (put width_of s t) ≡ gone_after width_of (t ∷ []) (stand_of s)
+  cluster_leaves : (s : Screen) (t : List ℕ) → s.column + text_width width_of t ≤ s.width → stand_of (put width_of s t) ≡ dropped_after width_of (t ∷ []) (stand_of s)
   cluster_leaves s t fits =
       let columns : Row = cluster_columns width_of s t in
       let count : length columns ≡ text_width width_of t = cluster_count s t (omega (arith, fits)) in
@@ -130,14 +130,14 @@ module _ (width_of : List ℕ → ℕ) where
   -- ---- clusters, and a text of them
 
   clusters_print : (ts : List (List ℕ)) (s : Screen) (at : Stand) → stand_of s ≡ at → after width_of at.column ts ≤ at.width
-      → StrokesPrint width_of s (map Cluster ts) (beside width_of at.row at.column ts) (gone_after width_of ts at)
+      → StrokesPrint width_of s (map Cluster ts) (beside width_of at.row at.column ts) (dropped_after width_of ts at)
   clusters_print [] s at e fits = record { prints = refl; still = refl; leaves = e }
   clusters_print (t ∷ ts) s at e fits =
       let within : at.column + text_width width_of t ≤ at.width = omega (arith, after_grows width_of ts (at.column + text_width width_of t), fits) in
       let room : s.column + text_width width_of t ≤ s.width = subst (λ (x : Stand). x.column + text_width width_of t ≤ x.width) (sym e) within in
       let first : print_of width_of s t ≡ record { row = at.row; column = at.column; text = t } = cluster_print s t room ∙ (λ i. record { row = (e i).row; column = (e i).column; text = t }) in
-      let next = cluster_leaves s t room ∙ ap (gone_after width_of (t ∷ [])) e in
-      let rest = clusters_print ts (put width_of s t) (gone_after width_of (t ∷ []) at) next fits in
+      let next = cluster_leaves s t room ∙ ap (dropped_after width_of (t ∷ [])) e in
+      let rest = clusters_print ts (put width_of s t) (dropped_after width_of (t ∷ []) at) next fits in
       let quiet = cluster_still s t room in
       record { prints = λ i. first i ∷ rest.prints i; still = λ i. quiet i || rest.still i; leaves = rest.leaves }
 
@@ -175,7 +175,7 @@ module _ (width_of : List ℕ → ℕ) where
 
   -- the changes print these texts side by side, from the cursor on
   abbrev pub PrintsBeside : Display → Stand → List ChangeValue → List (List ℕ) → Type 0
-  PrintsBeside d at changes ts = Prints width_of d changes (beside width_of at.row at.column ts) (gone_after width_of ts at)
+  PrintsBeside d at changes ts = Prints width_of d changes (beside width_of at.row at.column ts) (dropped_after width_of ts at)
 
   text_prints : (text : List ℕ) (ts : List (List ℕ)) (d : Display) (at : Stand) → strokes text ≡ map Cluster ts → stand_of d.screen ≡ at → after width_of at.column ts ≤ at.width
       → PrintsBeside d at (Text text ∷ []) ts
@@ -192,14 +192,14 @@ module _ (width_of : List ℕ → ℕ) where
   each_prints [] d at p e fits = Prints-nothing e
   each_prints (t ∷ ts) d at p e fits =
       let within : at.column + text_width width_of t ≤ at.width = omega (arith, after_grows width_of ts (at.column + text_width width_of t), fits) in
-      Prints-join (text_prints t (t ∷ []) d at (strokes_are t (t ∷ []) p.0.alone (p.0, tt) p.0.printed) e within) (λ x f. each_prints ts x (gone_after width_of (t ∷ []) at) p.1 f fits)
+      Prints-join (text_prints t (t ∷ []) d at (strokes_are t (t ∷ []) p.0.alone (p.0, tt) p.0.printed) e within) (λ x f. each_prints ts x (dropped_after width_of (t ∷ []) at) p.1 f fits)
 
   -- joined, or one by one
   pub texts_print : (ts : List (List ℕ)) (d : Display) (at : Stand) → AreTexts ts → stand_of d.screen ≡ at → after width_of at.column ts ≤ at.width
       → PrintsBeside d at (map Text (texts ts)) ts
   texts_print [] d at p e fits = subst (λ (all : List (List ℕ)). PrintsBeside d at (map Text all) []) (sym no_texts) (Prints-nothing e)
   texts_print (t ∷ ts) d at p e fits =
-      by_test (stay_apart (t ∷ ts))
+      by_test (stay_independent (t ∷ ts))
       (λ q.
       let is = strokes_are (concat (t ∷ ts)) (t ∷ ts) (same_texts_are (graphemes true (concat (t ∷ ts))) (t ∷ ts) q) p (none_joined (t ∷ ts) p) in
       subst (λ (all : List (List ℕ)). PrintsBeside d at (map Text all) (t ∷ ts)) (sym (one_text t ts q)) (text_prints (concat (t ∷ ts)) (t ∷ ts) d at is e fits))
@@ -240,12 +240,12 @@ module _ (width_of : List ℕ → ℕ) where
       (λ q. subst (λ b. Prints width_of d (due_if a b) [] (with_pen_of a at)) (sym q) (pen_prints a d at e))
 
   runs_print : (runs : List CellRun) (d : Display) (at : Stand) → AreTexts (run_texts runs) → stand_of d.screen ≡ at → after width_of at.column (run_texts runs) ≤ at.width
-      → Prints width_of d (runs_written at.pen runs) (beside width_of at.row at.column (run_texts runs)) (with_pen_of (runs_pen at.pen runs) (gone_after width_of (run_texts runs) at))
+      → Prints width_of d (runs_written at.pen runs) (beside width_of at.row at.column (run_texts runs)) (with_pen_of (runs_pen at.pen runs) (dropped_after width_of (run_texts runs) at))
   runs_print [] d at p e fits = Prints-nothing e
   runs_print (run ∷ runs) d at p e fits =
       let a : Attributes = run.attributes in
       let penned : Stand = with_pen_of a at in
-      let mid : Stand = gone_after width_of run.cells penned in
+      let mid : Stand = dropped_after width_of run.cells penned in
       let two = both_texts width_of run.cells (run_texts runs) p in
       let far = after_both width_of run.cells (run_texts runs) at.column in
       let rest_fits : after width_of mid.column (run_texts runs) ≤ at.width = subst (λ n. n ≤ at.width) far fits in
@@ -258,7 +258,7 @@ module _ (width_of : List ℕ → ℕ) where
   -- ---- cells
 
   pub cells_print : (cells : List CellContent) (d : Display) (at : Stand) → AreTexts (map (λ c. c.text) cells) → stand_of d.screen ≡ at → after width_of at.column (map (λ c. c.text) cells) ≤ at.width
-      → Prints width_of d (cells_written at.pen cells) (beside width_of at.row at.column (map (λ c. c.text) cells)) (with_pen_of (last_pen at.pen cells) (gone_after width_of (map (λ c. c.text) cells) at))
+      → Prints width_of d (cells_written at.pen cells) (beside width_of at.row at.column (map (λ c. c.text) cells)) (with_pen_of (last_pen at.pen cells) (dropped_after width_of (map (λ c. c.text) cells) at))
   cells_print cells d at p e fits =
       let is = runs_texts cells in
       let are : AreTexts (run_texts (cell_runs cells)) = subst AreTexts (sym is) p in
@@ -266,4 +266,4 @@ module _ (width_of : List ℕ → ℕ) where
       Prints-as
       (runs_print (cell_runs cells) d at are e fit)
       (ap (λ (ts : List (List ℕ)). beside width_of at.row at.column ts) is)
-      (λ i. with_pen_of (pen_is cells at.pen i) (gone_after width_of (is i) at))
+      (λ i. with_pen_of (pen_is cells at.pen i) (dropped_after width_of (is i) at))

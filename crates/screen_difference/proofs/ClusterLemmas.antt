@@ -13,7 +13,7 @@ use Rattle.screen_change.specs.ChangeValue.{ChangeValue, AllAttributes, Text}
 use Rattle.screen_change.specs.Texts.{texts}
 use Rattle.screen_change.proofs.TextLemmas.{by_test, clusters_of_texts}
 use Rattle.screen_difference.specs.Difference.{Stretch, cells_of, alone, longer, before_stretches, stretches, stretch_written, stretches_written, difference}
-use Rattle.screen_difference.specs.DrawnCells.{HavePlaces, clusters_of, printed}
+use Rattle.screen_difference.specs.DrawnCells.{HavePositions, clusters_of, printed}
 use Rattle.screen_difference.specs.FreshCells.{PlacedCell}
 
 -- ---- texts that are each one cluster
@@ -141,9 +141,9 @@ printed_difference cells p = printed_stretches None (stretches cells) (stretches
 pub printed_are_cells : (cells : List PlacedCell) → map (graphemes true) (map (λ c. c.cell.text) cells) ≡ map (λ text. text ∷ []) (map (λ c. c.cell.text) cells) → printed (difference cells) ≡ map (λ c. c.cell.text) cells
 printed_are_cells cells e = printed_difference cells (maps_alone (map (λ c. c.cell.text) cells) e)
 
-places_alone : (width_of : List ℕ → ℕ) (width rows : ℕ) (cells : List PlacedCell) → HavePlaces width_of width rows cells → Alone (map (λ c. c.cell.text) cells)
-places_alone width_of width rows [] p = tt
-places_alone width_of width rows (c ∷ cells) p = (p.0.sound.stands.alone, places_alone width_of width rows cells p.1)
+positions_alone : (width_of : List ℕ → ℕ) (width rows : ℕ) (cells : List PlacedCell) → HavePositions width_of width rows cells → Alone (map (λ c. c.cell.text) cells)
+positions_alone width_of width rows [] p = tt
+positions_alone width_of width rows (c ∷ cells) p = (p.0.sound.stands.alone, positions_alone width_of width rows cells p.1)
 
-pub placed_are_printed : (width_of : List ℕ → ℕ) (width rows : ℕ) (cells : List PlacedCell) → HavePlaces width_of width rows cells → printed (difference cells) ≡ map (λ c. c.cell.text) cells
-placed_are_printed width_of width rows cells p = printed_difference cells (places_alone width_of width rows cells p)
+pub placed_are_printed : (width_of : List ℕ → ℕ) (width rows : ℕ) (cells : List PlacedCell) → HavePositions width_of width rows cells → printed (difference cells) ≡ map (λ c. c.cell.text) cells
+placed_are_printed width_of width rows cells p = printed_difference cells (positions_alone width_of width rows cells p)

@@ -15,12 +15,12 @@ use Rattle.screen_change.proofs.TextLemmas.{by_test}
 use Rattle.cell_edits.specs.CellList.{cell_columns}
 use Rattle.cell_base.proofs.LawfulScreens.{write_columns_is}
 use Rattle.screen_difference.specs.Difference.{Stretch, cells_of, alone, longer, before_stretches, stretches, position, stretch_written, stretches_written, difference}
-use Rattle.screen_difference.specs.DrawnCells.{drawn, all_drawn, HasPlace, HavePlaces}
+use Rattle.screen_difference.specs.DrawnCells.{drawn, all_drawn, HasPosition, HavePositions}
 use Rattle.screen_difference.specs.FreshCells.{PlacedCell}
 use Rattle.screen_difference.proofs.SideLemmas.{differs}
 use Rattle.screen_effects.specs.Display.{Display, IsDisplay}
 use Rattle.screen_effects.specs.Effect.{on_screen, with_pen, effect, replay}
-use Rattle.screen_effects.specs.Positions.{column_place}
+use Rattle.screen_effects.specs.Positions.{resolved_column}
 use Rattle.screen_effects.proofs.EffectLaws.{effect_is, replay_is}
 use Rattle.screen_effects.proofs.StrokeLaws.{whole_columns}
 use Rattle.screen_effects.specs.WrittenCells.{AreSound, joined_columns}
@@ -53,7 +53,7 @@ module _ (width_of : List ℕ → ℕ) where
   position_is d column row c r =
       let w = d.screen.width in
       let there : min column (w - 1) ≡ column = omega arith in
-      let is : column_place w d.screen.column (Absolute column) ≡ column = ap (λ t. if t then w else min column (w - 1)) (differs column w (inl c)) ∙ there in
+      let is : resolved_column w d.screen.column (Absolute column) ≡ column = ap (λ t. if t then w else min column (w - 1)) (differs column w (inl c)) ∙ there in
       let row_is : min row (height d.screen - 1) ≡ row = omega arith in
       λ i. record d { screen = record d.screen { column = is i; row = row_is i } }
 
@@ -103,7 +103,7 @@ module _ (width_of : List ℕ → ℕ) where
 
   -- ---- cells that are drawn one by one
 
-  column_count : (c : PlacedCell) (width rows : ℕ) → HasPlace width_of width rows c → length (cell_columns c.cell) ≡ c.cell.width
+  column_count : (c : PlacedCell) (width rows : ℕ) → HasPosition width_of width rows c → length (cell_columns c.cell) ≡ c.cell.width
   column_count c width rows p =
       let some = p.some in
       let most = p.most in
@@ -114,14 +114,14 @@ module _ (width_of : List ℕ → ℕ) where
   placed_screen : (s : Screen) (column row : ℕ) → IsScreen s → column ≤ s.width → row < height s → IsScreen (placed_at column row s)
   placed_screen s column row h c r = record { wide_enough = h.wide_enough; even = h.even; column_in = c; row_in = r }
 
-  drawn_screen : (s : Screen) (c : PlacedCell) → IsScreen s → HasPlace width_of s.width (height s) c → IsScreen (drawn s c)
+  drawn_screen : (s : Screen) (c : PlacedCell) → IsScreen s → HasPosition width_of s.width (height s) c → IsScreen (drawn s c)
   drawn_screen s c h p =
       let count = column_count c s.width (height s) p in
       let fits = p.in_columns in
       let w = write_columns_is (placed_at c.column c.row s) (cell_columns c.cell) (placed_screen s c.column c.row h (omega arith) p.in_rows) (omega arith) in
       record { wide_enough = w.wide_enough; even = w.even; column_in = w.column_in; row_in = w.row_in }
 
-  goes_on : (s : Screen) (c : PlacedCell) (t : Stretch) → IsScreen s → HasPlace width_of s.width (height s) c → (c.row == t.row && c.column + c.cell.width == t.column) ≡ true → stretch_drawn (drawn s c) t ≡ stretch_drawn s (longer c t)
+  goes_on : (s : Screen) (c : PlacedCell) (t : Stretch) → IsScreen s → HasPosition width_of s.width (height s) c → (c.row == t.row && c.column + c.cell.width == t.column) ≡ true → stretch_drawn (drawn s c) t ≡ stretch_drawn s (longer c t)
   goes_on s c t h p e =
       let both = and_parts (c.row == t.row) (c.column + c.cell.width == t.column) e in
       let row : t.row ≡ c.row = sym ((unsigned_Decides c.row t.row).0 both.0) in
@@ -133,7 +133,7 @@ module _ (width_of : List ℕ → ℕ) where
       (λ i. with_pen pen (write_columns (joined_columns (cells_of t)) (placed_at (column i) (row i) (drawn s c))))
       ∙ ap (with_pen pen) (write_again start (cell_columns c.cell) (joined_columns (cells_of t)) (placed_screen s c.column c.row h (omega arith) p.in_rows) (whole_columns c.cell.text (nat_le 2 c.cell.width) c.cell.attributes) (omega arith))
 
-  one_more : (ts : List Stretch) (s : Screen) (c : PlacedCell) → IsScreen s → HasPlace width_of s.width (height s) c → fold stretch_drawn (drawn s c) ts ≡ fold stretch_drawn s (before_stretches c ts)
+  one_more : (ts : List Stretch) (s : Screen) (c : PlacedCell) → IsScreen s → HasPosition width_of s.width (height s) c → fold stretch_drawn (drawn s c) ts ≡ fold stretch_drawn s (before_stretches c ts)
   one_more [] s c h p = ap (λ (r : Row). with_pen c.cell.attributes (write_columns r (placed_at c.column c.row s))) (sym (append-nil (cell_columns c.cell)))
   one_more (t ∷ ts) s c h p =
       by_test (c.row == t.row && c.column + c.cell.width == t.column)
@@ -142,14 +142,14 @@ module _ (width_of : List ℕ → ℕ) where
       ap (λ (r : Row). fold stretch_drawn (with_pen c.cell.attributes (write_columns r (placed_at c.column c.row s))) (t ∷ ts)) (sym (append-nil (cell_columns c.cell)))
       ∙ sym (ap (λ b. fold stretch_drawn s (if b then longer c t ∷ ts else alone c ∷ t ∷ ts)) e))
 
-  by_stretches : (cells : List PlacedCell) (s : Screen) (rows : ℕ) → rows ≡ height s → IsScreen s → HavePlaces width_of s.width rows cells → fold stretch_drawn s (stretches cells) ≡ all_drawn cells s
+  by_stretches : (cells : List PlacedCell) (s : Screen) (rows : ℕ) → rows ≡ height s → IsScreen s → HavePositions width_of s.width rows cells → fold stretch_drawn s (stretches cells) ≡ all_drawn cells s
   by_stretches [] s rows e h p = refl
   by_stretches (c ∷ cells) s rows e h p =
-      let q : HasPlace width_of s.width (height s) c = subst (λ n. HasPlace width_of s.width n c) e p.0 in
+      let q : HasPosition width_of s.width (height s) c = subst (λ n. HasPosition width_of s.width n c) e p.0 in
       sym (one_more (stretches cells) s c h q)
       ∙ by_stretches cells (drawn s c) rows (e ∙ sym (length-set {A = Row} s.rows c.row _)) (drawn_screen s c h q) p.1
 
-  before_fits : (c : PlacedCell) (ts : List Stretch) (width rows : ℕ) → HasPlace width_of width rows c → StretchesFit width_of width rows ts → StretchesFit width_of width rows (before_stretches c ts)
+  before_fits : (c : PlacedCell) (ts : List Stretch) (width rows : ℕ) → HasPosition width_of width rows c → StretchesFit width_of width rows ts → StretchesFit width_of width rows (before_stretches c ts)
   before_fits c [] width rows p q =
       let count = column_count c width rows p in
       let fits = p.in_columns in
@@ -170,14 +170,14 @@ module _ (width_of : List ℕ → ℕ) where
       (record { in_columns = omega (arith, length-append (cell_columns c.cell) []); in_rows = p.in_rows; sound = (p.sound, tt) }, q) in
       subst (StretchesFit width_of width rows) (sym (ap (λ b. if b then longer c t ∷ ts else alone c ∷ t ∷ ts) e)) both_fit)
 
-  stretches_fit : (cells : List PlacedCell) (width rows : ℕ) → HavePlaces width_of width rows cells → StretchesFit width_of width rows (stretches cells)
+  stretches_fit : (cells : List PlacedCell) (width rows : ℕ) → HavePositions width_of width rows cells → StretchesFit width_of width rows (stretches cells)
   stretches_fit [] width rows p = tt
   stretches_fit (c ∷ cells) width rows p = before_fits c (stretches cells) width rows p.0 (stretches_fit cells width rows p.1)
 
-  drawn_is : (d : Display) (cells : List PlacedCell) → IsDisplay d → HavePlaces width_of d.screen.width (height d.screen) cells → replay width_of d (difference cells) ≡ on_screen (all_drawn cells) d
+  drawn_is : (d : Display) (cells : List PlacedCell) → IsDisplay d → HavePositions width_of d.screen.width (height d.screen) cells → replay width_of d (difference cells) ≡ on_screen (all_drawn cells) d
   drawn_is d cells h p =
       all_are (stretches cells) d h (stretches_fit cells d.screen.width (height d.screen) p)
       ∙ ap (λ (s : Screen). record d { screen = s }) (by_stretches cells d.screen (height d.screen) refl h.lawful p)
 
-pub difference_is_drawn : (width_of : List ℕ → ℕ) (d : Display) (cells : List PlacedCell) → IsDisplay d → HavePlaces width_of d.screen.width (height d.screen) cells → replay width_of d (difference cells) ≡ on_screen (all_drawn cells) d
+pub difference_is_drawn : (width_of : List ℕ → ℕ) (d : Display) (cells : List PlacedCell) → IsDisplay d → HavePositions width_of d.screen.width (height d.screen) cells → replay width_of d (difference cells) ≡ on_screen (all_drawn cells) d
 difference_is_drawn width_of = drawn_is width_of

@@ -125,9 +125,9 @@ none_fresh x other_x width old new e = ap (λ count. fresh (visible_from x (colu
 -- each of some cells is shown by them
 shown_there : (done rest : List VisibleCell) (v : VisibleCell) → is_shown (done ++ v ∷ rest) v ≡ true
 shown_there [] rest v =
-    let place : (v.column == v.column) ≡ true = (unsigned_Decides v.column v.column).1 refl in
+    let position : (v.column == v.column) ≡ true = (unsigned_Decides v.column v.column).1 refl in
     let cell : same_cell v.cell v.cell ≡ true = (same_cell_decides v.cell v.cell).1 refl in
-    λ i. (place i && cell i) || is_shown rest v
+    λ i. (position i && cell i) || is_shown rest v
 shown_there (old ∷ done) rest v = ap (λ b. (old.column == v.column && same_cell old.cell v.cell) || b) (shown_there done rest v) ∙ or_true (old.column == v.column && same_cell old.cell v.cell)
   where
     or_true : (b : Bool) → (b || true) ≡ true

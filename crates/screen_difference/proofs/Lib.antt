@@ -4,7 +4,7 @@ pub mod DrawingLemmas
 pub mod DrawnLemmas
 pub mod FreshLemmas
 pub mod PartLemmas
-pub mod PlaceLemmas
+pub mod PositionLemmas
 pub mod RegionLemmas
 pub mod RowLemmas
 pub mod SideLemmas

@@ -84,8 +84,8 @@ take_less (suc k) (suc n) (x ∷ r) h = ap (λ (s : Row). x ∷ s) (take_less k 
 
 -- ---- columns that are set in a part
 
-dropped_front : (x k : ℕ) (row : Row) → drop x (take (x + k) row) ≡ take k (drop x row)
-dropped_front x k row = drop-take x k row
+dropped_prefix : (x k : ℕ) (row : Row) → drop x (take (x + k) row) ≡ take k (drop x row)
+dropped_prefix x k row = drop-take x k row
 
 set_after : (x k : ℕ) (row cols : Row) → x + k ≤ length row → drop x (set_columns row (x + k) cols) ≡ set_columns (drop x row) k cols
 set_after x k row cols h =
@@ -95,7 +95,7 @@ set_after x k row cols h =
     let more = length-append prefix cols in
     drop-append-le x (prefix ++ cols) back (omega arith)
     ∙ ap (λ (r : Row). r ++ back) (drop-append-le x prefix cols (omega arith))
-    ∙ ap (λ (r : Row). (r ++ cols) ++ back) (drop_end x (take (x + k) row) ∙ ap closed_end (dropped_front x k row))
+    ∙ ap (λ (r : Row). (r ++ cols) ++ back) (drop_end x (take (x + k) row) ∙ ap closed_end (dropped_prefix x k row))
     ∙ ap (λ (r : Row). (closed_end (take k (drop x row)) ++ cols) ++ closed_start r) (
     let e : x + k + length cols ≡ x + (k + length cols) = omega arith in
     ap (λ n. drop n row) e ∙ sym (drop-drop (k + length cols) x row))
@@ -127,7 +127,7 @@ set_cut n k m row cols e w p h =
     ∙ end_after prefix cols (take m back) p h
     ∙ (λ i. (closed_end (sym (take_end k (take n row) (omega arith) ∙ take_less k n row (omega arith)) i) ++ cols)
     ++ (ap closed_end (take_start m (drop (k + length cols) row)) ∙ sym (both_ends (take m (drop (k + length cols) row)))
-    ∙ ap closed_start (ap closed_end (sym (dropped_front (k + length cols) m row) ∙ ap (λ j. drop (k + length cols) (take j row)) e) ∙ sym (drop_end (k + length cols) (take n row)))) i)
+    ∙ ap closed_start (ap closed_end (sym (dropped_prefix (k + length cols) m row) ∙ ap (λ j. drop (k + length cols) (take j row)) e) ∙ sym (drop_end (k + length cols) (take n row)))) i)
 
 -- what is set within a part is set in the row
 pub set_in_part : (x n k : ℕ) (row cols : Row) → k + length cols ≤ n → x + n ≤ length row → IsWhole cols → 0 < length cols → columns_from x n (set_columns row (x + k) cols) ≡ set_columns (columns_from x n row) k cols
@@ -142,14 +142,14 @@ set_in_part x n k row cols f h p s =
 -- ---- what stands before and after them
 
 -- the columns before a position stay, but for a half that is left alone there
-pub set_front : (x k : ℕ) (row cols : Row) → x + k ≤ length row → (take x (set_columns row (x + k) cols) ≡ take x row) ⊎ (take x (set_columns row (x + k) cols) ≡ closed_end (take x row))
-set_front x zero row cols h =
+pub set_prefix : (x k : ℕ) (row cols : Row) → x + k ≤ length row → (take x (set_columns row (x + k) cols) ≡ take x row) ⊎ (take x (set_columns row (x + k) cols) ≡ closed_end (take x row))
+set_prefix x zero row cols h =
     let e : x + zero ≡ x = omega arith in
     let prefix : Row = closed_end (take x row) in
     let back : Row = closed_start (drop (x + length cols) row) in
     let count : length prefix ≡ x = length-closed_end (take x row) ∙ length-take-le x row (omega arith) in
     inr (ap (λ n. take x (set_columns row n cols)) e ∙ ap (take x) (append_assoc prefix cols back) ∙ take_at prefix (cols ++ back) x count)
-set_front x (suc k) row cols h =
+set_prefix x (suc k) row cols h =
     let prefix : Row = closed_end (take (x + suc k) row) in
     let back : Row = closed_start (drop (x + suc k + length cols) row) in
     let taken : length (take (x + suc k) row) ≡ x + suc k = length-take-le (x + suc k) row h in

@@ -14,11 +14,11 @@ use Rattle.cell_edits.specs.VisibleCells.{VisibleCell, visible_from}
 use Rattle.cell_base.specs.WholeRow.{IsWhole}
 use Rattle.cell_base.proofs.RowLemmas.{whole_ends, whole_starts}
 use Rattle.screen_difference.specs.Difference.{difference}
-use Rattle.screen_difference.specs.DrawnCells.{drawn, all_drawn, HavePlaces}
+use Rattle.screen_difference.specs.DrawnCells.{drawn, all_drawn, HavePositions}
 use Rattle.screen_difference.specs.FreshCells.{PlacedCell, columns_from, fresh, lines_fresh, placed, region_fresh, row_fresh, rows_fresh, screen_fresh, shared_width}
-use Rattle.screen_difference.specs.Redrawn.{KeepsOthers, RowsShow, ShowsLines, ShowsRegion, ShowsRow}
+use Rattle.screen_difference.specs.Redrawn.{KeepsRest, RowsShow, ShowsLines, ShowsRegion, ShowsRow}
 use Rattle.screen_difference.proofs.DrawnLemmas.{difference_is_drawn}
-use Rattle.screen_difference.proofs.PlaceLemmas.{row_shown, row_places, set_visible}
+use Rattle.screen_difference.proofs.PositionLemmas.{row_shown, row_positions, set_visible}
 use Rattle.screen_difference.proofs.RowLemmas.{fresh_drawn}
 use Rattle.screen_effects.specs.Display.{Display, IsDisplay}
 use Rattle.screen_effects.specs.Effect.{on_screen, replay}
@@ -109,17 +109,17 @@ module _ (width_of : List ℕ → ℕ) (blank_is : IsSoundText width_of space fa
     rows_shown olds news (λ k d h. o (suc k) d (omega arith)) (λ k d h. w (suc k) d (omega arith)) (λ k d h. s (suc k) d (omega arith)),
   )
 
-  places_append : (stop rows : ℕ) (a b : List PlacedCell) → HavePlaces width_of stop rows a → HavePlaces width_of stop rows b → HavePlaces width_of stop rows (a ++ b)
-  places_append stop rows [] b p q = q
-  places_append stop rows (c ∷ a) b p q = (p.0, places_append stop rows a b p.1 q)
+  positions_append : (stop rows : ℕ) (a b : List PlacedCell) → HavePositions width_of stop rows a → HavePositions width_of stop rows b → HavePositions width_of stop rows (a ++ b)
+  positions_append stop rows [] b p q = q
+  positions_append stop rows (c ∷ a) b p q = (p.0, positions_append stop rows a b p.1 q)
 
-  rows_places : (stop rows k : ℕ) (olds news : List Row) → k + length olds ≤ rows → All (λ row. length row ≡ stop) olds → All IsWhole news → All (IsSoundRow width_of) news → HavePlaces width_of stop rows (rows_fresh compared k olds news)
-  rows_places stop rows k [] news h e w s = tt
-  rows_places stop rows k (old ∷ olds) [] h e w s = tt
-  rows_places stop rows k (old ∷ olds) (new ∷ news) h e w s =
-      places_append stop rows (placed k (compared old new)) (rows_fresh compared (k + 1) olds news)
-      (row_places width_of blank_is x other_x (width new) stop rows k old new (e zero [] (omega arith)) (omega arith) (w zero [] (omega arith)) (s zero [] (omega arith)))
-      (rows_places stop rows (k + 1) olds news (omega arith) (λ i d l. e (suc i) d (omega arith)) (λ i d l. w (suc i) d (omega arith)) (λ i d l. s (suc i) d (omega arith)))
+  rows_positions : (stop rows k : ℕ) (olds news : List Row) → k + length olds ≤ rows → All (λ row. length row ≡ stop) olds → All IsWhole news → All (IsSoundRow width_of) news → HavePositions width_of stop rows (rows_fresh compared k olds news)
+  rows_positions stop rows k [] news h e w s = tt
+  rows_positions stop rows k (old ∷ olds) [] h e w s = tt
+  rows_positions stop rows k (old ∷ olds) (new ∷ news) h e w s =
+      positions_append stop rows (placed k (compared old new)) (rows_fresh compared (k + 1) olds news)
+      (row_positions width_of blank_is x other_x (width new) stop rows k old new (e zero [] (omega arith)) (omega arith) (w zero [] (omega arith)) (s zero [] (omega arith)))
+      (rows_positions stop rows (k + 1) olds news (omega arith) (λ i d l. e (suc i) d (omega arith)) (λ i d l. w (suc i) d (omega arith)) (λ i d l. s (suc i) d (omega arith)))
 
   -- ---- what is replayed
 
@@ -135,17 +135,17 @@ module _ (width_of : List ℕ → ℕ) (blank_is : IsSoundText width_of space fa
   none_after y n rows l = ap (take n) (drop_all y rows l) ∙ take_none n
 
   -- the cells of rows that are within a screen have their places
-  pub cells_places : (s : Screen) (h : IsScreen s) (news : List Row) (y n : ℕ) → All IsWhole news → All (IsSoundRow width_of) news → HavePlaces width_of s.width (height s) (rows_fresh compared y (take n (drop y s.rows)) news)
-  cells_places s h news y n w p =
+  pub cells_positions : (s : Screen) (h : IsScreen s) (news : List Row) (y n : ℕ) → All IsWhole news → All (IsSoundRow width_of) news → HavePositions width_of s.width (height s) (rows_fresh compared y (take n (drop y s.rows)) news)
+  cells_positions s h news y n w p =
       by_test (nat_le y (length s.rows))
       (λ e.
       let l : y ≤ length s.rows = grind (arith, nat_tests) in
       let a = length-take n (drop y s.rows) in
       let b = length-drop y s.rows in
-      rows_places s.width (height s) y (take n (drop y s.rows)) news (omega arith) (All-take (λ row. length row ≡ s.width) n (drop y s.rows) (All-drop (λ row. length row ≡ s.width) y s.rows h.even)) w p)
+      rows_positions s.width (height s) y (take n (drop y s.rows)) news (omega arith) (All-take (λ row. length row ≡ s.width) n (drop y s.rows) (All-drop (λ row. length row ≡ s.width) y s.rows h.even)) w p)
       (λ e.
       let l : length s.rows ≤ y = grind (arith, nat_tests) in
-      subst (λ (rs : List Row). HavePlaces width_of s.width (height s) (rows_fresh compared y rs news)) (sym (none_after y n s.rows l)) tt)
+      subst (λ (rs : List Row). HavePositions width_of s.width (height s) (rows_fresh compared y rs news)) (sym (none_after y n s.rows l)) tt)
 
   -- the rows above stay, and those after are redrawn
   record Redraws (y n : ℕ) (news before after : List Row) : Type 0 where
@@ -181,7 +181,7 @@ module _ (width_of : List ℕ → ℕ) (blank_is : IsSoundText width_of space fa
   replay_redraws d news y n h w p =
       let cells : List PlacedCell = rows_fresh compared y (take n (drop y d.screen.rows)) news in
       let is : (replay width_of d (difference cells)).screen.rows ≡ fold row_drawn d.screen.rows cells =
-      ap (λ (x : Display). x.screen.rows) (difference_is_drawn width_of d cells h (cells_places d.screen h.lawful news y n w p)) ∙ rows_of_drawn cells d.screen in
+      ap (λ (x : Display). x.screen.rows) (difference_is_drawn width_of d cells h (cells_positions d.screen h.lawful news y n w p)) ∙ rows_of_drawn cells d.screen in
       subst (Redraws y n news d.screen.rows) (sym is) (cells_redraw d.screen.rows news y n)
 
   -- the rows in question show the new ones, and those below stay
@@ -232,17 +232,17 @@ lines_are_shown width_of d y news b h w p =
       within = subst (RowsShow (λ new. ShowsRow 0 0 (length new) new) news (drop y rows)) (sym rest) (rows_shown width_of b 0 0 length (drop y rows) news whole w p);
     }
 
-pub region_places : (width_of : List ℕ → ℕ) (s : Screen) (x y width rows : ℕ) (news : List Row) (other_x other_y : ℕ) → IsSoundText width_of space false → IsScreen s → All IsWhole news → All (IsSoundRow width_of) news
-    → HavePlaces width_of s.width (height s) (region_fresh s.rows x y width rows news other_x other_y)
-region_places width_of s x y width rows news other_x other_y b h w p =
-    cells_places width_of b x other_x (λ _. width) s h (drop other_y news) y rows (All-drop IsWhole other_y news w) (All-drop (IsSoundRow width_of) other_y news p)
+pub region_positions : (width_of : List ℕ → ℕ) (s : Screen) (x y width rows : ℕ) (news : List Row) (other_x other_y : ℕ) → IsSoundText width_of space false → IsScreen s → All IsWhole news → All (IsSoundRow width_of) news
+    → HavePositions width_of s.width (height s) (region_fresh s.rows x y width rows news other_x other_y)
+region_positions width_of s x y width rows news other_x other_y b h w p =
+    cells_positions width_of b x other_x (λ _. width) s h (drop other_y news) y rows (All-drop IsWhole other_y news w) (All-drop (IsSoundRow width_of) other_y news p)
 
-pub lines_places : (width_of : List ℕ → ℕ) (s : Screen) (y : ℕ) (news : List Row) → IsSoundText width_of space false → IsScreen s → All IsWhole news → All (IsSoundRow width_of) news
-    → HavePlaces width_of s.width (height s) (lines_fresh s.rows y news)
-lines_places width_of s y news b h w p =
+pub lines_positions : (width_of : List ℕ → ℕ) (s : Screen) (y : ℕ) (news : List Row) → IsSoundText width_of space false → IsScreen s → All IsWhole news → All (IsSoundRow width_of) news
+    → HavePositions width_of s.width (height s) (lines_fresh s.rows y news)
+lines_positions width_of s y news b h w p =
     let rows : List Row = s.rows in
     let all : take (length rows) (drop y rows) ≡ drop y rows = take_all (length rows) (drop y rows) (omega (arith, length-drop y rows)) in
-    subst (λ (olds : List Row). HavePlaces width_of s.width (height s) (rows_fresh (λ old new. row_fresh 0 0 (length new) old new) y olds news)) all (cells_places width_of b 0 0 length s h news y (length rows) w p)
+    subst (λ (olds : List Row). HavePositions width_of s.width (height s) (rows_fresh (λ old new. row_fresh 0 0 (length new) old new) y olds news)) all (cells_positions width_of b 0 0 length s h news y (length rows) w p)
 
 -- ---- screens of one size
 
@@ -294,7 +294,7 @@ title_stays : (cells : List PlacedCell) (s : Screen) → (all_drawn cells s).tit
 title_stays [] s = refl
 title_stays (c ∷ cells) s = title_stays cells (drawn s c)
 
-pub others_stay : (width_of : List ℕ → ℕ) (d : Display) (cells : List PlacedCell) → IsDisplay d → HavePlaces width_of d.screen.width (height d.screen) cells → KeepsOthers d (replay width_of d (difference cells))
-others_stay width_of d cells h p =
-    let kept : KeepsOthers d (on_screen (all_drawn cells) d) = record { width = width_stays cells d.screen; visible = visible_stays cells d.screen; title = title_stays cells d.screen; sizes = refl; shape = refl } in
-    subst (KeepsOthers d) (sym (difference_is_drawn width_of d cells h p)) kept
+pub rest_stay : (width_of : List ℕ → ℕ) (d : Display) (cells : List PlacedCell) → IsDisplay d → HavePositions width_of d.screen.width (height d.screen) cells → KeepsRest d (replay width_of d (difference cells))
+rest_stay width_of d cells h p =
+    let kept : KeepsRest d (on_screen (all_drawn cells) d) = record { width = width_stays cells d.screen; visible = visible_stays cells d.screen; title = title_stays cells d.screen; sizes = refl; shape = refl } in
+    subst (KeepsRest d) (sym (difference_is_drawn width_of d cells h p)) kept

@@ -144,11 +144,11 @@ on_cell : (at : ℕ) (o v : CellContent) (olds news : List VisibleCell) → Late
 on_cell at o v olds news h =
     let old : VisibleCell = record { column = at; cell = o } in
     let new : VisibleCell = record { column = at; cell = v } in
-    let place : (at == at) ≡ true = (unsigned_Decides at at).1 refl in
+    let position : (at == at) ≡ true = (unsigned_Decides at at).1 refl in
     let remaining : passed_fresh (old ∷ olds) news ≡ passed_fresh olds news =
     sym (passed_later (at + 1) (old ∷ olds) news h) ∙ ap (λ (os : List VisibleCell). passed_fresh os news) (from_next (at + 1) old olds (omega arith)) ∙ passed_later (at + 1) olds news h in
     ap (λ (rest : List VisibleCell). if begins_with rest at v then passed_fresh rest news else new ∷ passed_fresh rest news) (from_later at (old ∷ olds) (omega arith))
-    ∙ (λ i. if place i && same_cell o v then remaining i else new ∷ remaining i)
+    ∙ (λ i. if position i && same_cell o v then remaining i else new ∷ remaining i)
 
 abbrev byte_cell : ℕ → Attributes → CellContent
 byte_cell b a = record { text = b ∷ []; width = 1; attributes = a }
@@ -247,10 +247,10 @@ on_passed at to oc n olds cells news e h k p = p ∙ (λ i. from_column (k i) (e
 -- ---- steps of the walk, and what they write
 
 -- the cells of a text's prefix, and then those after it
-front_written : (d next : Drawing) (row : ℕ) (olds left : List VisibleCell) (at n : ℕ) (text : List ℕ) (a : Attributes) → n ≤ length text
+prefix_written : (d next : Drawing) (row : ℕ) (olds left : List VisibleCell) (at n : ℕ) (text : List ℕ) (a : Attributes) → n ≤ length text
     → next ≡ with_all d (placed row (passed_fresh olds (visible_each at (take n text) a))) → left ≡ from_column (at + n) olds
     → with_all next (placed row (passed_fresh left (visible_each (at + n) (drop n text) a))) ≡ with_all d (placed row (passed_fresh olds (visible_each at text a)))
-front_written d next row olds left at n text a h e p =
+prefix_written d next row olds left at n text a h e p =
     let prefix : List VisibleCell = visible_each at (take n text) a in
     let after : List VisibleCell = visible_each (at + n) (drop n text) a in
     let count = length-take-le n text h in
@@ -300,10 +300,10 @@ pub next_written : (d next : Drawing) (row : ℕ) (olds left : List VisibleCell)
     → next ≡ with_all d (placed row (passed_fresh olds (visible_each (column + at) (take n part) a))) → left ≡ from_column (column + at + n) olds
     → with_all next (placed row (passed_fresh left (visible_each (column + (at + n)) (drop (at + n) text) a))) ≡ with_all d (placed row (passed_fresh olds (visible_each (column + at) (drop at text) a)))
 next_written d next row olds left column at n text part a g h e p =
-    let place : column + (at + n) ≡ column + at + n = omega arith in
+    let position : column + (at + n) ≡ column + at + n = omega arith in
     let rest : drop (at + n) text ≡ drop n part = sym (ap (drop n) g ∙ drop-drop n at text) in
-    (λ i. with_all next (placed row (passed_fresh left (visible_each (place i) (rest i) a))))
-    ∙ front_written d next row olds left (column + at) n part a h e p
+    (λ i. with_all next (placed row (passed_fresh left (visible_each (position i) (rest i) a))))
+    ∙ prefix_written d next row olds left (column + at) n part a h e p
     ∙ ap (λ (t : List ℕ). with_all d (placed row (passed_fresh olds (visible_each (column + at) t a)))) g
 
 -- a text's cells are some

@@ -25,12 +25,12 @@ stretch_done w s = record { written = with_cells w (cells_of s); has_begun = tru
 abbrev joined : Drawing → Stretch → Drawing
 joined d s = stretch_done (moved_to s.row s.column s.first.attributes d) s
 
-abbrev apart : Drawing → Stretch → Drawing
-apart d s = stretch_done (with_change (position s.column s.row) d.written) s
+abbrev independent : Drawing → Stretch → Drawing
+independent d s = stretch_done (with_change (position s.column s.row) d.written) s
 
 abbrev all_joined : Drawing → List Stretch → Drawing
 all_joined d [] = d
-all_joined d (s ∷ ss) = fold apart (joined d s) ss
+all_joined d (s ∷ ss) = fold independent (joined d s) ss
 
 -- a stretch that goes on at the cell's end
 goes_on : (d : Drawing) (c : PlacedCell) (s : Stretch) → (c.row == s.row && c.column + c.cell.width == s.column) ≡ true → joined (with_placed d c) s ≡ joined d (longer c s)
@@ -41,15 +41,15 @@ goes_on d c s e =
     ap (λ t. stretch_done (if t then (with_placed d c).written else with_change (position s.column s.row) (with_placed d c).written) s) e
     ∙ (λ i. record { written = with_cells (with_placed d c).written (cells_of s); has_begun = true; row = sym row i; column = fold (λ n x. n + x.width) (sym column i) (cells_of s) })
 
-stands : (d : Drawing) (c : PlacedCell) (s : Stretch) → (c.row == s.row && c.column + c.cell.width == s.column) ≡ false → joined (with_placed d c) s ≡ apart (with_placed d c) s
+stands : (d : Drawing) (c : PlacedCell) (s : Stretch) → (c.row == s.row && c.column + c.cell.width == s.column) ≡ false → joined (with_placed d c) s ≡ independent (with_placed d c) s
 stands d c s e = ap (λ t. stretch_done (if t then (with_placed d c).written else with_change (position s.column s.row) (with_placed d c).written) s) e
 
 one_more : (d : Drawing) (c : PlacedCell) (ss : List Stretch) → all_joined (with_placed d c) ss ≡ all_joined d (before_stretches c ss)
 one_more d c [] = refl
 one_more d c (s ∷ ss) =
     by_test (c.row == s.row && c.column + c.cell.width == s.column)
-    (λ e. ap (λ (x : Drawing). fold apart x ss) (goes_on d c s e) ∙ sym (ap (λ t. all_joined d (if t then longer c s ∷ ss else alone c ∷ s ∷ ss)) e))
-    (λ e. ap (λ (x : Drawing). fold apart x ss) (stands d c s e) ∙ sym (ap (λ t. all_joined d (if t then longer c s ∷ ss else alone c ∷ s ∷ ss)) e))
+    (λ e. ap (λ (x : Drawing). fold independent x ss) (goes_on d c s e) ∙ sym (ap (λ t. all_joined d (if t then longer c s ∷ ss else alone c ∷ s ∷ ss)) e))
+    (λ e. ap (λ (x : Drawing). fold independent x ss) (stands d c s e) ∙ sym (ap (λ t. all_joined d (if t then longer c s ∷ ss else alone c ∷ s ∷ ss)) e))
 
 by_stretches : (d : Drawing) (cells : List PlacedCell) → with_all d cells ≡ all_joined d (stretches cells)
 by_stretches d [] = refl
@@ -61,11 +61,11 @@ by_stretches d (c ∷ cells) = by_stretches (with_placed d c) cells ∙ one_more
 after_change : (change : ChangeValue) (w : Written) (cells : List CellContent) → finished (with_cells (with_change change w) cells) ≡ finished w ++ change ∷ cells_written w.pen cells
 after_change change w cells = cells_are_written (with_change change w) cells refl ∙ append_assoc (finished w) (change ∷ []) (cells_written w.pen cells)
 
-all_apart : (d : Drawing) (ss : List Stretch) → finished (fold apart d ss).written ≡ finished d.written ++ stretches_written (Some d.written.pen) ss
-all_apart d [] = sym (append-nil (finished d.written))
-all_apart d (s ∷ ss) =
+all_independent : (d : Drawing) (ss : List Stretch) → finished (fold independent d ss).written ≡ finished d.written ++ stretches_written (Some d.written.pen) ss
+all_independent d [] = sym (append-nil (finished d.written))
+all_independent d (s ∷ ss) =
     let w : Written = with_change (position s.column s.row) d.written in
-    all_apart (apart d s) ss
+    all_independent (independent d s) ss
     ∙ (λ i. after_change (position s.column s.row) d.written (cells_of s) i ++ stretches_written (Some (pen_is_after w (cells_of s) i)) ss)
     ∙ append_assoc (finished d.written) (position s.column s.row ∷ cells_written d.written.pen (cells_of s)) (stretches_written (Some (last_pen s.first.attributes s.remaining)) ss)
 
@@ -81,8 +81,8 @@ all_written d pen [] n e = ap finished e ∙ nothing_written pen
 all_written d pen (s ∷ ss) n e =
     let w : Written = first_moved s.row s.column s.first.attributes in
     let begins : joined d s ≡ stretch_done w s = ap (λ t. stretch_done (if t then (if d.row == s.row && d.column == s.column then d.written else with_change (position s.column s.row) d.written) else w) s) n in
-    ap (λ (x : Drawing). finished (fold apart x ss).written) begins
-    ∙ all_apart (stretch_done w s) ss
+    ap (λ (x : Drawing). finished (fold independent x ss).written) begins
+    ∙ all_independent (stretch_done w s) ss
     ∙ (λ i. first_written s i ++ stretches_written (Some (pen_is_after w (cells_of s) i)) ss)
 
 -- cells that are pushed into a new writer are their difference

@@ -45,11 +45,11 @@ compared : (column at : ℕ) (olds news : List ℕ) (a : Attributes) → at < le
     → differing (column + at) (drop at olds) (drop at news) a ≡ (if get_or olds at 0 == get_or news at 0 then differing (column + (at + 1)) (drop (at + 1) olds) (drop (at + 1) news) a else visible_at (column + at) (get_or news at 0 ∷ []) 1 a ∷ differing (column + (at + 1)) (drop (at + 1) olds) (drop (at + 1) news) a)
 compared column at olds news a h e =
     let next : suc at ≡ at + 1 = omega arith in
-    let place : column + at + 1 ≡ column + (at + 1) = omega arith in
+    let position : column + at + 1 ≡ column + (at + 1) = omega arith in
     let old : drop at olds ≡ get_or olds at 0 ∷ drop (at + 1) olds = drop-cons olds at 0 (omega arith) ∙ ap (λ k. get_or olds at 0 ∷ drop k olds) next in
     let new : drop at news ≡ get_or news at 0 ∷ drop (at + 1) news = drop-cons news at 0 h ∙ ap (λ k. get_or news at 0 ∷ drop k news) next in
     (λ i. differing (column + at) (old i) (new i) a)
-    ∙ ap (λ k. if get_or olds at 0 == get_or news at 0 then differing k (drop (at + 1) olds) (drop (at + 1) news) a else visible_at (column + at) (get_or news at 0 ∷ []) 1 a ∷ differing k (drop (at + 1) olds) (drop (at + 1) news) a) place
+    ∙ ap (λ k. if get_or olds at 0 == get_or news at 0 then differing k (drop (at + 1) olds) (drop (at + 1) news) a else visible_at (column + at) (get_or news at 0 ∷ []) 1 a ∷ differing k (drop (at + 1) olds) (drop (at + 1) news) a) position
 
 mixed_same : (column from at : ℕ) (olds news : List ℕ) (a : Attributes) → at < length news → length olds ≡ length news → get_or olds at 0 ≡ get_or news at 0
     → visible_each (column + from) (take (at - from) (drop from news)) a ++ mixed column (at + 1) (at + 1) olds news a ≡ mixed column from at olds news a
@@ -68,7 +68,7 @@ mixed_other column from at olds news a le h e n =
     let other : (get_or olds at 0 == b) ≡ false = by_test (get_or olds at 0 == b) (λ t. absurd (n ((unsigned_Decides (get_or olds at 0) b).0 t))) (λ f. f) in
     let after = length-drop from news in
     let count : at + 1 - from ≡ suc (at - from) = omega arith in
-    let place : column + from + (at - from) ≡ column + at = omega arith in
+    let position : column + from + (at - from) ≡ column + at = omega arith in
     let index : from + (at - from) ≡ at = omega arith in
     let there : get_or (drop from news) (at - from) 0 ≡ b = get_or-drop from news (at - from) 0 ∙ ap (λ k. get_or news k 0) index in
     let rest : List VisibleCell = differing (column + (at + 1)) (drop (at + 1) olds) (drop (at + 1) news) a in
@@ -76,7 +76,7 @@ mixed_other column from at olds news a le h e n =
     ap (λ k. visible_each (column + from) (take k (drop from news)) a ++ rest) count
     ∙ ap (λ (vs : List VisibleCell). vs ++ rest) (each_more (column + from) (at - from) (drop from news) a b (omega arith) there)
     ∙ append_assoc prefix (visible_at (column + from + (at - from)) (b ∷ []) 1 a ∷ []) rest
-    ∙ ap (λ (vs : List VisibleCell). prefix ++ vs) (ap (λ k. visible_at k (b ∷ []) 1 a ∷ rest) place ∙ sym (compared column at olds news a h e ∙ ap (λ t. if t then rest else visible_at (column + at) (b ∷ []) 1 a ∷ rest) other))
+    ∙ ap (λ (vs : List VisibleCell). prefix ++ vs) (ap (λ k. visible_at k (b ∷ []) 1 a ∷ rest) position ∙ sym (compared column at olds news a h e ∙ ap (λ t. if t then rest else visible_at (column + at) (b ∷ []) 1 a ∷ rest) other))
 
 -- where the next character is the same, those that wait are written
 same_written : (d next : Drawing) (row column from at : ℕ) (olds news part : List ℕ) (a : Attributes) → at < length news → length olds ≡ length news → get_or olds at 0 ≡ get_or news at 0

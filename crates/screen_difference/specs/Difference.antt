@@ -1,4 +1,4 @@
--- The changes that write cells where they have their places.
+-- The changes that write cells at their positions.
 use Rattle.std.specs.Prelude.{ℕ, ◌+◌, ◌&&◌, ◌==◌, List, [], ◌∷◌, ◌++◌, Option, Some, None, if◌then◌else◌}
 use Rattle.cell_base.specs.declared.attributes.Position.TheVariants.{Absolute}
 use Rattle.cell_base.specs.Attributes.{Attributes}
@@ -7,7 +7,7 @@ use Rattle.screen_change.specs.CellChanges.{cells_written, last_pen}
 use Rattle.screen_change.specs.ChangeValue.{ChangeValue, AllAttributes, CursorPosition}
 use Rattle.screen_difference.specs.FreshCells.{PlacedCell}
 
--- cells side by side in a row: its number, the first one's column, that cell, and the others
+-- cells side by side in a row: its number, the first cell's column, this cell, and the remaining ones
 pub record Stretch : Type 0 where
   pub row : ℕ
   pub column : ℕ
@@ -40,8 +40,8 @@ stretches (c ∷ cells) = before_stretches c (stretches cells)
 abbrev pub position : ℕ → ℕ → ChangeValue
 position column row = CursorPosition (Absolute column) (Absolute row)
 
--- a stretch, where the last attributes that were written are these: its place, and the changes that write its cells;
--- where no attributes were written, those of its first cell are
+-- a stretch, where the last written attributes are these: its position, and the changes that write its cells; where no
+-- attributes were written, it writes the attributes of its first cell
 abbrev pub stretch_written : Option Attributes → Stretch → List ChangeValue
 stretch_written None stretch =
     position stretch.column stretch.row ∷ AllAttributes stretch.first.attributes

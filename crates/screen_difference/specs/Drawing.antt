@@ -17,12 +17,12 @@ pub record Drawing : Type 0 where
 abbrev pub new_drawing : Attributes → Drawing
 new_drawing pen = record { written = begun pen; has_begun = false; row = 0; column = 0 }
 
--- before the first cell: its place and its attributes
+-- before the first cell: its position and its attributes
 abbrev pub first_moved : ℕ → ℕ → Attributes → Written
 first_moved row column attributes =
     with_change (AllAttributes attributes) (with_change (position column row) (begun attributes))
 
--- before another cell: its place, unless the last cell ends there
+-- before another cell: its position, unless the last cell ends there
 abbrev pub next_moved : ℕ → ℕ → Drawing → Written
 next_moved row column d =
     if d.row == row && d.column == column then d.written else with_change (position column row) d.written

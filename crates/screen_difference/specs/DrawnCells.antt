@@ -1,4 +1,4 @@
--- Cells that are drawn on a screen where they have their places.
+-- Cells that are drawn on a screen at their positions.
 use Rattle.std.specs.Prelude.{ℕ, ◌+◌, ◌<◌, ◌≤◌, ⊤, true, nat_le, List, [], ◌∷◌, fold}
 use Rattle.std.specs.List.{flat_map}
 use Rattle.unicode_segmentation.specs.Grapheme.{graphemes}
@@ -9,7 +9,7 @@ use Rattle.screen_difference.specs.FreshCells.{PlacedCell}
 use Rattle.screen_effects.specs.Effect.{with_pen}
 use Rattle.screen_effects.specs.WrittenCells.{IsSoundText}
 
--- the cell stands at its place, the cursor after it, and the pen has its attributes
+-- the cell is at its position, the cursor after it, and the pen has its attributes
 abbrev pub drawn : Screen → PlacedCell → Screen
 drawn screen c =
     with_pen c.cell.attributes (write_columns (cell_columns c.cell) (record screen { column = c.column; row = c.row }))
@@ -17,17 +17,18 @@ drawn screen c =
 abbrev pub all_drawn : List PlacedCell → Screen → Screen
 all_drawn cells screen = fold drawn screen cells
 
--- the cell has its place on a screen of a size, and is as a screen has cells
-pub record HasPlace (width_of : List ℕ → ℕ) (width height : ℕ) (c : PlacedCell) : Type 0 where
+-- the cell has its position on a screen of a size, and is as a screen has cells
+pub record HasPosition (width_of : List ℕ → ℕ) (width height : ℕ) (c : PlacedCell) : Type 0 where
   pub some : 1 ≤ c.cell.width
   pub most : c.cell.width ≤ 2
   pub sound : IsSoundText width_of c.cell.text (nat_le 2 c.cell.width)
   pub in_columns : c.column + c.cell.width ≤ width
   pub in_rows : c.row < height
 
-abbrev pub HavePlaces : (List ℕ → ℕ) → ℕ → ℕ → List PlacedCell → Type 0
-HavePlaces width_of width height [] = ⊤
-HavePlaces width_of width height (c ∷ cells) = HasPlace width_of width height c × HavePlaces width_of width height cells
+abbrev pub HavePositions : (List ℕ → ℕ) → ℕ → ℕ → List PlacedCell → Type 0
+HavePositions width_of width height [] = ⊤
+HavePositions width_of width height (c ∷ cells) =
+    HasPosition width_of width height c × HavePositions width_of width height cells
 
 -- the clusters (UAX 29) of the texts of changes
 abbrev pub clusters_of : ChangeValue → List (List ℕ)

@@ -16,15 +16,15 @@ pub record PlacedCell : Type 0 where
   pub column : ℕ
   pub cell : CellContent
 
--- so many columns of a row, from one on; a half that an edge leaves alone is a blank with its wide cell's attributes
+-- `width` columns of a row, from one on; a half that an edge leaves alone is a blank with its wide cell's attributes
 abbrev pub columns_from : ℕ → ℕ → Row → Row
 columns_from start width row = cut width (cut_prefix start row)
 
--- how many of so many columns both rows have, each from a column of its own on
+-- how many of `width` columns both rows have, each from a column of its own on
 abbrev pub shared_width : ℕ → ℕ → Row → ℕ → Row → ℕ
 shared_width width x old other_x new = min (min width (length old - x)) (length new - other_x)
 
--- whether one of some cells stands at this one's column, with equal text, width and attributes
+-- whether one of `cells` has this cell's column, and equal text, width and attributes
 abbrev pub is_shown : List VisibleCell → VisibleCell → Bool
 is_shown cells v = list_any (λ old. old.column == v.column && same_cell old.cell v.cell) cells
 

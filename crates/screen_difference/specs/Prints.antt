@@ -15,7 +15,7 @@ pub record PlacedText : Type 0 where
   pub column : ℕ
   pub text : List ℕ
 
--- the text of a cell at its place
+-- the text of a cell at its position
 abbrev pub text_of : PlacedCell → PlacedText
 text_of c = record { row = c.row; column = c.column; text = c.cell.text }
 
@@ -23,7 +23,7 @@ text_of c = record { row = c.row; column = c.column; text = c.cell.text }
 abbrev pub text_put : (List ℕ → ℕ) → Screen → List ℕ → List ℕ
 text_put width_of screen cluster = if nat_le 2 (width_of cluster) && screen.width == 1 then space else cluster
 
--- the screen on which it is put: what doesn't fit in the row goes to the start of the next one
+-- the screen on which it is put: a cluster that doesn't fit in the row goes to the start of the next one
 abbrev pub wrapped_for : (List ℕ → ℕ) → Screen → List ℕ → Screen
 wrapped_for width_of screen cluster =
     if needs_next_row width_of screen (Cluster cluster) then carriage_return (line_feed screen) else screen

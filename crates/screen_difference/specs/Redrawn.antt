@@ -9,7 +9,7 @@ abbrev pub IsKept : (Row → Row) → Row → Row → Type 0
 IsKept closed before after = (after ≡ before) ⊎ (after ≡ closed before)
 
 -- from a column on a row shows these columns, where a cell that an edge cuts counts as a blank; before and after them
--- it is as it was, but that of a wide cell which straddles the edge the half outside may have become a blank
+-- it is as it was, except that the outer half of a wide cell across an edge may have become a blank
 pub record ShowsPart (start : ℕ) (columns before after : Row) : Type 0 where
   pub within : columns_from start (length columns) after ≡ columns
   pub prefix : IsKept closed_end (take start before) (take start after)
@@ -30,7 +30,7 @@ RowsShow shows [] (before ∷ befores) (after ∷ afters) = (after ≡ before) �
 RowsShow shows (new ∷ news) (before ∷ befores) (after ∷ afters) =
     shows new before after × RowsShow shows news befores afters
 
--- the rows of a region show the new ones, and the others are as they were
+-- the rows of a region show the new ones, and the rows above and below are as they were
 pub record ShowsRegion (x y width height : ℕ) (news : List Row) (other_x other_y : ℕ) (before after : List Row) : Type 0
   where
     pub above : take y after ≡ take y before
@@ -44,7 +44,7 @@ pub record ShowsLines (y : ℕ) (news before after : List Row) : Type 0 where
   pub within : RowsShow (λ new. ShowsRow 0 0 (length new) new) news (drop y before) (drop y after)
 
 -- nothing but rows, the cursor's position and the pen has changed
-pub record KeepsOthers (before after : Display) : Type 0 where
+pub record KeepsRest (before after : Display) : Type 0 where
   pub width : after.screen.width ≡ before.screen.width
   pub visible : after.screen.visible ≡ before.screen.visible
   pub title : after.screen.title ≡ before.screen.title

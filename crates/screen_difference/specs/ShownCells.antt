@@ -19,7 +19,7 @@ abbrev pub HaveRoom : ℕ → List VisibleCell → Type 0
 HaveRoom at [] = ⊤
 HaveRoom at (v ∷ cells) = (at + v.cell.width < 2 ^ 64) × HaveRoom (at + v.cell.width) cells
 
--- the cells that are left
+-- the remaining cells
 abbrev pub shown_left : ShownCells → List VisibleCell
 shown_left s = side_by_side s.column (region_left s.cells)
 
@@ -51,7 +51,7 @@ differing at (old ∷ olds) (new ∷ news) attributes =
     if old == new then differing (at + 1) olds news attributes
     else visible_at at (new ∷ []) 1 attributes ∷ differing (at + 1) olds news attributes
 
--- the fresh cells of so many columns of a new row, from `other_x` on, against those of the old row from `x` on
+-- the fresh cells of `count` columns of a new row, from `other_x` on, against the cells of the old row from `x` on
 abbrev pub columns_fresh : ℕ → ℕ → ℕ → Row → Row → List VisibleCell
 columns_fresh x other_x count old new =
     fresh (visible_from x (columns_from x count old)) (visible_from x (columns_from other_x count new))

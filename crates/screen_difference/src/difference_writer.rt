@@ -1,4 +1,4 @@
-//! Changes that write cells where they have their places.
+//! Changes that write cells at their positions.
 ghost use Rattle.std.specs.Prelude.{◌≡◌, ◌+◌, ◌<◌, ◌^◌, true, List, length, map, OnOk, IfOk};
 ghost use Rattle.std.specs.List.{list_all};
 ghost use Rattle.text_clusters.specs.Plain.{is_printable};
@@ -16,7 +16,7 @@ use screen_change::{CellWriter, Change};
 use std::alloc::{AllocError, Global};
 use std::marker::Model;
 
-/// Makes the changes that write cells, each at its place, row by row.
+/// Makes the changes that write cells, each at its position, row by row.
 #[derive(Drop)]
 pub(crate) struct DifferenceWriter<'a> {
     alloc: Global,
@@ -76,7 +76,7 @@ impl<'a> DifferenceWriter<'a> {
         Ok(())
     }
 
-    // What stands before a cell: its place, unless the last cell ends there.
+    // Writes what precedes a cell: its position, unless the last cell ends there.
     fn move_to(
         &mut self,
         row: usize,

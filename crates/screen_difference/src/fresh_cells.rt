@@ -15,7 +15,7 @@ use cell_base::CellAttributes;
 use cell_line::CellRef;
 use std::alloc::AllocError;
 
-// Writes the new text's characters that differ from the old ones, which stand in the same columns.
+// Writes the new text's characters that differ from the old ones, which are in the same columns.
 fn write_differing<'a>(
     writer: &mut DifferenceWriter<'a>,
     row: usize,
@@ -42,7 +42,7 @@ fn write_differing<'a>(
     writer.push_plain(row, column + from, after(text, from), attrs)
 }
 
-// Writes the fresh ones of plain cells where as many old ones stand.
+// Writes the fresh ones of plain cells, where as many old plain cells are.
 fn write_run<'a>(
     writer: &mut DifferenceWriter<'a>,
     row: usize,

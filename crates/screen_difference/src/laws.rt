@@ -5,37 +5,36 @@ ghost use Rattle.cell_base.specs.Row.{Row, space};
 ghost use Rattle.cell_base.specs.Screen.{Screen, IsScreen, height};
 ghost use Rattle.cell_base.specs.WholeRow.{IsWhole};
 ghost use Rattle.screen_difference.specs.Difference.{difference};
-ghost use Rattle.screen_difference.specs.DrawnCells.{all_drawn, printed, HavePlaces};
+ghost use Rattle.screen_difference.specs.DrawnCells.{all_drawn, printed, HavePositions};
 ghost use Rattle.screen_difference.specs.FreshCells.{PlacedCell, lines_fresh, region_fresh, screen_fresh};
-ghost use Rattle.screen_difference.specs.Redrawn.{KeepsOthers, ShowsLines, ShowsRegion};
+ghost use Rattle.screen_difference.specs.Redrawn.{KeepsRest, ShowsLines, ShowsRegion};
 ghost use Rattle.screen_effects.specs.Display.{Display, IsDisplay};
 ghost use Rattle.screen_effects.specs.Effect.{on_screen, replay};
 ghost use Rattle.screen_effects.specs.WrittenCells.{IsSoundRow};
 
-/// The changes that write cells draw each of them at its place, in turn, and change nothing but
-/// rows, the cursor's position and the pen. The fresh cells of rows whose texts are sound have their
-/// positions.
+/// The changes that write cells draw each of them at its position, in turn, and change only rows, the
+/// cursor's position and the pen. The fresh cells of rows whose texts are sound have their positions.
 pub fn differences_draw_their_cells()
     ensures drawn { (width_of : List ℕ → ℕ) (display : Display) (cells : List PlacedCell) → IsDisplay display
-        → HavePlaces width_of display.screen.width (height display.screen) cells
+        → HavePositions width_of display.screen.width (height display.screen) cells
         → replay width_of display (difference cells) ≡ on_screen (all_drawn cells) display }
     ensures remaining { (width_of : List ℕ → ℕ) (display : Display) (cells : List PlacedCell) → IsDisplay display
-        → HavePlaces width_of display.screen.width (height display.screen) cells
-        → KeepsOthers display (replay width_of display (difference cells)) }
+        → HavePositions width_of display.screen.width (height display.screen) cells
+        → KeepsRest display (replay width_of display (difference cells)) }
     ensures region { (width_of : List ℕ → ℕ) (screen : Screen) (x : ℕ) (y : ℕ) (width : ℕ) (rows : ℕ) (news : List Row)
         (other_x : ℕ) (other_y : ℕ) → width_of space ≡ 1 → IsScreen screen → All IsWhole news
         → All (IsSoundRow width_of) news
-        → HavePlaces width_of screen.width (height screen)
+        → HavePositions width_of screen.width (height screen)
         (region_fresh screen.rows x y width rows news other_x other_y) }
     ensures lines { (width_of : List ℕ → ℕ) (screen : Screen) (y : ℕ) (news : List Row) → width_of space ≡ 1
         → IsScreen screen → All IsWhole news → All (IsSoundRow width_of) news
-        → HavePlaces width_of screen.width (height screen) (lines_fresh screen.rows y news) }
+        → HavePositions width_of screen.width (height screen) (lines_fresh screen.rows y news) }
 {}
 
 /// A difference, replayed on the old side, leaves in the region what the new side shows there, where
-/// a cell that the region's edge cuts counts as a blank on both sides; outside of it nothing changes
-/// but halves of wide cells that straddle its edge. Of screens of one size the rows become the new
-/// ones. The new rows are whole, and their texts sound.
+/// a cell that the region's edge cuts counts as a blank on both sides; outside of it only halves of
+/// wide cells across its edge change. Of screens of one size the rows become the new ones. The new
+/// rows are whole, and their texts sound.
 pub fn differences_show_the_new_side()
     ensures region { (width_of : List ℕ → ℕ) (display : Display) (x : ℕ) (y : ℕ) (width : ℕ) (rows : ℕ)
         (news : List Row) (other_x : ℕ) (other_y : ℕ) → width_of space ≡ 1 → IsDisplay display → All IsWhole news

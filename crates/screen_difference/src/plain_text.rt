@@ -13,7 +13,7 @@ pub(crate) fn after(text: &str, start: usize) -> &str
     &text[start..]
 }
 
-/// So many characters at the start.
+/// The first `count` characters.
 pub(crate) fn prefix(text: &str, count: usize) -> &str
     requires printable { list_all is_printable text.now ≡ true }
     requires within { count ≤ length text.now }

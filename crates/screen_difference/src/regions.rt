@@ -42,7 +42,7 @@ fn write_region<'a>(
     Ok(())
 }
 
-// Writes whole lines row by row, those that are there on both sides.
+// Writes whole lines row by row, as far as both sides have lines.
 fn write_lines<'a>(
     writer: &mut DifferenceWriter<'a>,
     number: usize,
@@ -138,7 +138,7 @@ fn line_changes<'a>(
     Ok(changes)
 }
 
-/// The changes that make the first lines show what these show, line by line.
+/// The changes that make the first of `lines` show what `remaining` shows, line by line.
 pub fn diff_lines(
     alloc: Global,
     lines: &[Line],
@@ -171,8 +171,8 @@ fn numbered_line_changes<'a>(
     Ok(changes)
 }
 
-/// The changes that make the line of a number, counted from 0, show what this one shows; none where
-/// there is no such line.
+/// The changes that make line `row`, counted from 0, show what `other` shows; none where there is no
+/// line `row`.
 pub fn diff_against_numbered_line(
     alloc: Global,
     lines: &[Line],
@@ -188,8 +188,8 @@ pub fn diff_against_numbered_line(
     Ok(changes)
 }
 
-/// The changes that make the lines of a screen of some columns show what those of another screen
-/// show.
+/// The changes that make the lines of a screen of `width` columns show what the lines of another
+/// screen show.
 pub fn diff_screens(
     alloc: Global,
     width: usize,

@@ -13,8 +13,8 @@ use cell_line::laws::lines_are_whole;
 use cell_line::{Line, RegionIter};
 use std::alloc::AllocError;
 
-// Writes the fresh ones of the cells that are left first: as many plain ones as stand there, or another one. Returns
-// how many columns they take; 0 where none is left.
+// Writes the fresh ones of the next remaining cells: as many plain ones as come next, or another one. Returns how many
+// columns they take; 0 where none is left.
 fn write_next<'a>(
     writer: &mut DifferenceWriter<'a>,
     row: usize,
@@ -47,7 +47,7 @@ fn write_next<'a>(
     Ok(cell.width())
 }
 
-// Writes the new cells, which stand side by side from a column on, that the old ones don't show.
+// Writes the new cells, which are side by side from a column on, that the old ones don't show.
 fn write_cells<'a>(
     writer: &mut DifferenceWriter<'a>,
     row: usize,
@@ -69,8 +69,8 @@ fn write_cells<'a>(
     }
 }
 
-// How many of the first columns of a part are passed, and how many are then to be compared: outside of these, lines
-// that stand in the same columns show the same.
+// How many of the first columns of a part the caller skips, and how many it then compares: outside of these, lines that
+// are in the same columns show the same.
 fn unequal_part(x: usize, old: &Line, other_x: usize, new: &Line, count: usize) -> (usize, usize)
     requires within { x + count ≤ length old.now.columns }
     requires other_within { other_x + count ≤ length new.now.columns }
@@ -87,7 +87,7 @@ fn unequal_part(x: usize, old: &Line, other_x: usize, new: &Line, count: usize) 
     (passed, after - passed)
 }
 
-// Writes the fresh cells of so many columns of a line, from `other_x` on, against those of the old line from `x` on.
+// Writes the fresh cells of `count` columns of a line, from `other_x` on, against the old line's from `x` on.
 fn write_columns<'a>(
     writer: &mut DifferenceWriter<'a>,
     row: usize,
@@ -116,8 +116,8 @@ fn write_columns<'a>(
     Ok(())
 }
 
-/// Writes the fresh cells of some columns of a line, from `other_x` on, against those of the old line
-/// from `x` on.
+/// Writes the fresh cells of some columns of a line, from `other_x` on, against the cells of the old
+/// line from `x` on.
 pub(crate) fn write_row<'a>(
     writer: &mut DifferenceWriter<'a>,
     row: usize,

@@ -1,4 +1,4 @@
-//! Cells that are passed while others are compared with them.
+//! Cells that are passed while new cells are compared with them.
 ghost use Rattle.std.specs.Prelude.{◌≡◌, ◌+◌, ◌-◌, ◌<◌, ◌≤◌, ◌++◌, length, IfSome, MatchOption};
 ghost use Rattle.cell_edits.specs.VisibleCells.{visible_each};
 ghost use Rattle.cell_views.specs.CellRefView.{shown_by};
@@ -9,7 +9,7 @@ ghost use Rattle.screen_difference.specs.ShownCells.{HaveRoom};
 use cell_base::CellAttributes;
 use cell_line::{CellRef, RegionIter};
 
-/// The visible cells of a part of a line, side by side, of which those before a column are passed.
+/// The visible cells of a part of a line, side by side, of which the ones before `column` are passed.
 #[derive(Drop)]
 pub(crate) struct ShownCells<'a> {
     column: usize,
@@ -26,7 +26,7 @@ impl<'a> ShownCells<'a> {
         ShownCells { column, cells }
     }
 
-    /// Passes the plain cells that are left first, at most so many.
+    /// Passes the next plain cells, at most `most`.
     pub(crate) fn pass_plain(&mut self, most: usize) -> Option<(&'a str, &'a CellAttributes)>
         requires { Fits self.old }
         ensures left { MatchOption result (shown_left self.new ≡ shown_left self.old) (λ run.
@@ -84,7 +84,7 @@ impl<'a> ShownCells<'a> {
         }
     }
 
-    /// How many columns there are from one on before the cells that are left.
+    /// How many columns there are from `column` on before the remaining cells.
     pub(crate) fn gap(&self, column: usize) -> usize
         ensures { result ≡ self.now.column - column }
     {

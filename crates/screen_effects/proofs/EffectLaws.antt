@@ -16,7 +16,7 @@ use Rattle.cell_base.specs.WholeRow.{IsWhole}
 use Rattle.cell_base.proofs.RowLemmas.{length-closed_end, length-set_columns, whole-append, whole-prefix, whole-blanks, whole-set_columns}
 use Rattle.screen_effects.specs.Display.{Display, IsDisplay}
 use Rattle.screen_effects.specs.Effect.{on_screen, blank_row, cursor_row, cleared_after, cleared_screen, cleared_line, cleared_below, scrolled_up, scrolled_down, effect, replay}
-use Rattle.screen_effects.specs.Positions.{place, column_place}
+use Rattle.screen_effects.specs.Positions.{resolved, resolved_column}
 use Rattle.screen_effects.specs.Regions.{moved_up, moved_down, in_region}
 use Rattle.screen_effects.specs.Resize.{fitted, resized_row, resized}
 use Rattle.screen_effects.specs.Strokes.{strokes}
@@ -27,16 +27,16 @@ IsEven width row = length row ≡ width
 
 -- ---- positions
 
-pub place_in : (size from : ℕ) (position : Position) → 0 < size → from < size → place size from position < size
-place_in size from (Absolute at) h k = omega arith
-place_in size from (EndRelative back) h k = omega arith
-place_in size from (Relative (pos forward)) h k = omega arith
-place_in size from (Relative (negsuc less)) h k = omega arith
+pub position_in : (size from : ℕ) (position : Position) → 0 < size → from < size → resolved size from position < size
+position_in size from (Absolute at) h k = omega arith
+position_in size from (EndRelative back) h k = omega arith
+position_in size from (Relative (pos forward)) h k = omega arith
+position_in size from (Relative (negsuc less)) h k = omega arith
 
-pub column_in : (width from : ℕ) (position : Position) → 0 < width → from ≤ width → column_place width from position ≤ width
+pub column_in : (width from : ℕ) (position : Position) → 0 < width → from ≤ width → resolved_column width from position ≤ width
 column_in width from (Absolute at) h k = by_test (at == width) refl
   where
-    by_test : (b : Bool) → (at == width) ≡ b → column_place width from (Absolute at) ≤ width
+    by_test : (b : Bool) → (at == width) ≡ b → resolved_column width from (Absolute at) ≤ width
     by_test true e = rw e (omega arith)
     by_test false e = rw e (omega arith)
 column_in width from (EndRelative back) h k = omega arith
@@ -219,7 +219,7 @@ effect_is width_of d (CursorPosition x y) h =
         wide_enough = h.lawful.wide_enough;
         even = h.lawful.even;
         column_in = column_in s.width s.column x h.lawful.wide_enough h.lawful.column_in;
-        row_in = place_in (height s) s.row y (let g = h.lawful.row_in in omega arith) h.lawful.row_in;
+        row_in = position_in (height s) s.row y (let g = h.lawful.row_in in omega arith) h.lawful.row_in;
       };
       whole = h.whole;
       sized = h.sized;

@@ -67,30 +67,30 @@ abbrev AreGood : List TextPart → Type 0
 AreGood [] = ⊤
 AreGood (part ∷ parts) = IsGood part × AreGood parts
 
-abbrev put_front : List ℕ → List TextPart → List TextPart
-put_front [] parts = parts
-put_front (byte ∷ bytes) parts = with_byte byte (put_front bytes parts)
+abbrev put_prefix : List ℕ → List TextPart → List TextPart
+put_prefix [] parts = parts
+put_prefix (byte ∷ bytes) parts = with_byte byte (put_prefix bytes parts)
 
-parts_after : (bytes rest : List ℕ) → list_any is_ascii_control bytes ≡ false → text_parts (bytes ++ rest) ≡ put_front bytes (text_parts rest)
+parts_after : (bytes rest : List ℕ) → list_any is_ascii_control bytes ≡ false → text_parts (bytes ++ rest) ≡ put_prefix bytes (text_parts rest)
 parts_after [] rest e = refl
 parts_after (byte ∷ bytes) rest e =
     let p = or_parts (is_ascii_control byte) (list_any is_ascii_control bytes) e in
     ap (λ b. if b then Control byte ∷ text_parts (bytes ++ rest) else with_byte byte (text_parts (bytes ++ rest))) p.0
     ∙ ap (with_byte byte) (parts_after bytes rest p.1)
 
-before_plain : (bytes text : List ℕ) (parts : List TextPart) → put_front bytes (Plain text ∷ parts) ≡ Plain (bytes ++ text) ∷ parts
+before_plain : (bytes text : List ℕ) (parts : List TextPart) → put_prefix bytes (Plain text ∷ parts) ≡ Plain (bytes ++ text) ∷ parts
 before_plain [] text parts = refl
 before_plain (byte ∷ bytes) text parts = ap (with_byte byte) (before_plain bytes text parts)
 
-before_none : (byte : ℕ) (bytes : List ℕ) → put_front (byte ∷ bytes) [] ≡ Plain (byte ∷ bytes) ∷ []
+before_none : (byte : ℕ) (bytes : List ℕ) → put_prefix (byte ∷ bytes) [] ≡ Plain (byte ∷ bytes) ∷ []
 before_none byte [] = refl
 before_none byte (second ∷ bytes) = ap (with_byte byte) (before_none second bytes)
 
-before_control : (byte : ℕ) (bytes : List ℕ) (control : ℕ) (parts : List TextPart) → put_front (byte ∷ bytes) (Control control ∷ parts) ≡ Plain (byte ∷ bytes) ∷ Control control ∷ parts
+before_control : (byte : ℕ) (bytes : List ℕ) (control : ℕ) (parts : List TextPart) → put_prefix (byte ∷ bytes) (Control control ∷ parts) ≡ Plain (byte ∷ bytes) ∷ Control control ∷ parts
 before_control byte [] control parts = refl
 before_control byte (second ∷ bytes) control parts = ap (with_byte byte) (before_control second bytes control parts)
 
-good_after : (bytes : List ℕ) (parts : List TextPart) → IsUtf8 bytes → list_any is_ascii_control bytes ≡ false → AreGood parts → AreGood (put_front bytes parts)
+good_after : (bytes : List ℕ) (parts : List TextPart) → IsUtf8 bytes → list_any is_ascii_control bytes ≡ false → AreGood parts → AreGood (put_prefix bytes parts)
 good_after [] parts u n g = g
 good_after (byte ∷ bytes) [] u n g = subst AreGood (sym (before_none byte bytes)) ((u, n), tt)
 good_after (byte ∷ bytes) (Control control ∷ parts) u n g = subst AreGood (sym (before_control byte bytes control parts)) ((u, n), g)

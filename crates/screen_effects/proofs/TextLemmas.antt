@@ -11,7 +11,7 @@ use Rattle.std.proofs.lemmas.Bool.Decides.{nat_tests}
 use Rattle.std.proofs.lemmas.List.{drop_all, take_all}
 use Rattle.unicode_segmentation.specs.Grapheme.{graphemes}
 use Rattle.text_clusters.specs.Plain.{is_printable}
-use Rattle.text_clusters.proofs.PlainLemmas.{graphemes-nil, printable_front}
+use Rattle.text_clusters.proofs.PlainLemmas.{graphemes-nil, printable_prefix}
 use Rattle.cell_base.specs.CellContent.{shows_as_space}
 use Rattle.cell_base.specs.Cluster.{clusters, is_cluster, read_cluster}
 use Rattle.screen_effects.specs.Parts.{stand, IsAtControl, plain_part}
@@ -37,12 +37,12 @@ after (b ∷ text) = if is_ascii_control b then b ∷ text else after text
 abbrev plain_len : List ℕ → ℕ
 plain_len text = prefix_len (λ byte. not (is_ascii_control byte)) text
 
-front_is : (text : List ℕ) → take (plain_len text) text ≡ prefix text
+prefix_is : (text : List ℕ) → take (plain_len text) text ≡ prefix text
 unfolding prefix
-front_is [] = refl
-front_is (b ∷ text) = elim (is_ascii_control b) as (λ x. take (cond (not x) (1 + plain_len text) 0) (b ∷ text) ≡ (if x then [] else b ∷ prefix text)) [
+prefix_is [] = refl
+prefix_is (b ∷ text) = elim (is_ascii_control b) as (λ x. take (cond (not x) (1 + plain_len text) 0) (b ∷ text) ≡ (if x then [] else b ∷ prefix text)) [
   | true ↦ refl
-  | false ↦ let e : 1 + plain_len text ≡ suc (plain_len text) = omega arith in ap (λ n. take n (b ∷ text)) e ∙ ap (λ (t : List ℕ). b ∷ t) (front_is text)
+  | false ↦ let e : 1 + plain_len text ≡ suc (plain_len text) = omega arith in ap (λ n. take n (b ∷ text)) e ∙ ap (λ (t : List ℕ). b ∷ t) (prefix_is text)
 ]
 
 after_is : (text : List ℕ) → drop (plain_len text) text ≡ after text
@@ -66,17 +66,17 @@ module _ (b : ℕ) (text : List ℕ) where
   parts_with : Bool → List TextPart
   parts_with x = if x then Control b ∷ text_parts text else with_byte b (text_parts text)
 
-  front_with : is_ascii_control b ≡ true → prefix (b ∷ text) ≡ []
+  prefix_with : is_ascii_control b ≡ true → prefix (b ∷ text) ≡ []
   unfolding prefix
-  front_with e = ap (λ x. if x then [] else b ∷ prefix text) e
+  prefix_with e = ap (λ x. if x then [] else b ∷ prefix text) e
 
   after_with : is_ascii_control b ≡ true → after (b ∷ text) ≡ b ∷ text
   unfolding after
   after_with e = ap (λ x. if x then b ∷ text else after text) e
 
-  front_on : is_ascii_control b ≡ false → prefix (b ∷ text) ≡ b ∷ prefix text
+  prefix_on : is_ascii_control b ≡ false → prefix (b ∷ text) ≡ b ∷ prefix text
   unfolding prefix
-  front_on e = ap (λ x. if x then [] else b ∷ prefix text) e
+  prefix_on e = ap (λ x. if x then [] else b ∷ prefix text) e
 
   after_on : is_ascii_control b ≡ false → after (b ∷ text) ≡ after text
   unfolding after
@@ -87,29 +87,29 @@ module _ (b : ℕ) (text : List ℕ) where
   parts_on e = ap parts_with e
 
   at_first : is_ascii_control b ≡ true → text_parts (b ∷ text) ≡ plain_part (prefix (b ∷ text)) ++ text_parts (after (b ∷ text))
-  at_first e = sym (λ i. plain_part (front_with e i) ++ text_parts (after_with e i))
+  at_first e = sym (λ i. plain_part (prefix_with e i) ++ text_parts (after_with e i))
 
 parts_are : (text : List ℕ) → text_parts text ≡ plain_part (prefix text) ++ text_parts (after text)
 unfolding prefix after
 parts_are [] = refl
-parts_are (b ∷ []) = by_test (is_ascii_control b) (at_first b []) (λ e. parts_on b [] e ∙ sym (λ i. plain_part (front_on b [] e i) ++ text_parts (after_on b [] e i)))
+parts_are (b ∷ []) = by_test (is_ascii_control b) (at_first b []) (λ e. parts_on b [] e ∙ sym (λ i. plain_part (prefix_on b [] e i) ++ text_parts (after_on b [] e i)))
 parts_are (b ∷ x ∷ text) = by_test (is_ascii_control b) (at_first b (x ∷ text))
     (λ e. parts_on b (x ∷ text) e
     ∙ by_test (is_ascii_control x)
-    (λ k. single b x text k ∙ sym (λ i. plain_part (b ∷ front_with x text k i) ++ text_parts (after_with x text k i)))
-    (λ k. ap (with_byte b) (parts_are (x ∷ text)) ∙ ap (λ f. with_byte b (plain_part f ++ text_parts (after (x ∷ text)))) (front_on x text k) ∙ ap (λ f. plain_part (b ∷ f) ++ text_parts (after (x ∷ text))) (sym (front_on x text k)))
-    ∙ sym (λ i. plain_part (front_on b (x ∷ text) e i) ++ text_parts (after_on b (x ∷ text) e i)))
+    (λ k. single b x text k ∙ sym (λ i. plain_part (b ∷ prefix_with x text k i) ++ text_parts (after_with x text k i)))
+    (λ k. ap (with_byte b) (parts_are (x ∷ text)) ∙ ap (λ f. with_byte b (plain_part f ++ text_parts (after (x ∷ text)))) (prefix_on x text k) ∙ ap (λ f. plain_part (b ∷ f) ++ text_parts (after (x ∷ text))) (sym (prefix_on x text k)))
+    ∙ sym (λ i. plain_part (prefix_on b (x ∷ text) e i) ++ text_parts (after_on b (x ∷ text) e i)))
 
 pub parts_cut : (text : List ℕ) → text_parts text ≡ plain_part (take (plain_len text) text) ++ text_parts (drop (plain_len text) text)
-parts_cut text = parts_are text ∙ (λ i. plain_part (sym (front_is text) i) ++ text_parts (sym (after_is text) i))
+parts_cut text = parts_are text ∙ (λ i. plain_part (sym (prefix_is text) i) ++ text_parts (sym (after_is text) i))
 
 pub control_next : (text : List ℕ) → IsAtControl (drop (plain_len text) text)
 control_next text = subst IsAtControl (sym (after_is text)) (at_control text)
 
-front_plain : (text : List ℕ) → list_all is_plain (prefix text) ≡ true
+prefix_plain : (text : List ℕ) → list_all is_plain (prefix text) ≡ true
 unfolding prefix is_plain
-front_plain [] = refl
-front_plain (b ∷ text) = by_test (is_ascii_control b) (λ e. ap (list_all is_plain) (front_with b text e)) (λ e. ap (list_all is_plain) (front_on b text e) ∙ and_from (is_plain b) (list_all is_plain (prefix text)) (ap not e) (front_plain text))
+prefix_plain [] = refl
+prefix_plain (b ∷ text) = by_test (is_ascii_control b) (λ e. ap (list_all is_plain) (prefix_with b text e)) (λ e. ap (list_all is_plain) (prefix_on b text e) ∙ and_from (is_plain b) (list_all is_plain (prefix text)) (ap not e) (prefix_plain text))
 
 -- ---- each cluster of a text without controls can stand
 
@@ -128,8 +128,8 @@ each_stands (g ∷ gs) p =
     (by_test (is_cluster g) (λ e. rw e (ap not (alone g parts.0 e))) (λ e. rw e refl))
     (each_stands gs parts.1)
 
-pub front_stands : (text shown : List ℕ) → shown ≡ take (plain_len text) text → concat (graphemes true shown) ≡ shown → stand (clusters shown) ≡ true
-front_stands text shown e whole = each_stands (graphemes true shown) (ap (list_all is_plain) (whole ∙ e ∙ front_is text) ∙ front_plain text)
+pub prefix_stands : (text shown : List ℕ) → shown ≡ take (plain_len text) text → concat (graphemes true shown) ≡ shown → stand (clusters shown) ≡ true
+prefix_stands text shown e whole = each_stands (graphemes true shown) (ap (list_all is_plain) (whole ∙ e ∙ prefix_is text) ∙ prefix_plain text)
 
 -- ---- where a text may be cut
 
@@ -159,7 +159,7 @@ control_boundary (b ∷ text) u e h = IsCharBoundary-after_ascii (b ∷ text) 0 
 -- ---- a text of printable characters alone
 
 pub all_printable : (text : List ℕ) → prefix_len is_printable text ≡ length text → list_all is_printable text ≡ true
-all_printable text e = ap (list_all is_printable) (sym (take_all (length text) text (omega arith))) ∙ printable_front (length text) text (omega arith)
+all_printable text e = ap (list_all is_printable) (sym (take_all (length text) text (omega arith))) ∙ printable_prefix (length text) text (omega arith)
 
 pub printable_all : (text : List ℕ) → list_all is_printable text ≡ true → prefix_len is_printable text ≡ length text
 printable_all [] p = refl
@@ -186,4 +186,4 @@ plain_parts text p =
 
 -- and each of its clusters can stand
 pub plain_stands : (text : List ℕ) → list_all is_printable text ≡ true → concat (graphemes true text) ≡ text → stand (clusters text) ≡ true
-plain_stands text p whole = front_stands text text (sym (ap (λ n. take n text) (no_control text p) ∙ take_all (length text) text (omega arith))) whole
+plain_stands text p whole = prefix_stands text text (sym (ap (λ n. take n text) (no_control text p) ∙ take_all (length text) text (omega arith))) whole

@@ -18,7 +18,7 @@ use Rattle.cell_base.specs.Cluster.{clusters, is_cluster, read_cluster}
 use Rattle.cell_base.specs.Row.{Row, space, columns_of, set_columns}
 use Rattle.cell_base.specs.Screen.{Screen, IsScreen, height, line_feed, carriage_return, cluster_columns, write_columns, put}
 use Rattle.screen_change.specs.ChangeValue.{ChangeValue, Text, AllAttributes}
-use Rattle.screen_change.specs.Texts.{texts, stay_apart}
+use Rattle.screen_change.specs.Texts.{texts, stay_independent}
 use Rattle.screen_change.proofs.TextLemmas.{by_test, same_texts_are, one_text, each_text}
 use Rattle.screen_effects.specs.Display.{Display, IsDisplay}
 use Rattle.screen_effects.specs.Effect.{on_screen, with_pen, effect, replay}
@@ -175,7 +175,7 @@ module _ (width_of : List ℕ → ℕ) where
 
   pub texts_replayed : (t : List ℕ) (ts : List (List ℕ)) (d : Display) → AreTexts (t ∷ ts) → replay width_of d (map Text (texts (t ∷ ts))) ≡ fold (stroke_done width_of) d (map Cluster (t ∷ ts))
   texts_replayed t ts d p =
-      by_test (stay_apart (t ∷ ts))
+      by_test (stay_independent (t ∷ ts))
       (λ e.
       ap (λ (all : List (List ℕ)). replay width_of d (map Text all)) (one_text t ts e)
       ∙ text_is (concat (t ∷ ts)) (t ∷ ts) d (same_texts_are (graphemes true (concat (t ∷ ts))) (t ∷ ts) e) p (none_joined (t ∷ ts) p))

@@ -17,7 +17,7 @@ abbrev pub new_display : ℕ → ℕ → Display
 new_display width height =
     record { screen = new_screen width height; sizes = replicate height SingleWidthLine; shape = None }
 
--- what each display keeps: a lawful screen, whole rows, and a size for each
+-- the invariant of displays: a lawful screen, whole rows, and a size for each
 pub record IsDisplay (display : Display) : Type 0 where
   pub lawful : IsScreen display.screen
   pub whole : All IsWhole display.screen.rows

@@ -13,7 +13,7 @@ use Rattle.screen_change.specs.ChangeValue.{ClearToEndOfScreen, CursorPosition, 
 use Rattle.screen_change.specs.ChangeValue.{CursorVisibility, LineAttribute, ScrollRegionUp, ScrollRegionDown, Title}
 use Rattle.screen_effects.specs.Display.{Display}
 use Rattle.screen_effects.specs.Pen.{with_attribute}
-use Rattle.screen_effects.specs.Positions.{place, column_place}
+use Rattle.screen_effects.specs.Positions.{resolved, resolved_column}
 use Rattle.screen_effects.specs.Regions.{in_region, moved_up, moved_down}
 use Rattle.screen_effects.specs.Strokes.{text_done}
 
@@ -96,7 +96,7 @@ effect width_of display (ClearToEndOfScreen color) = on_screen (cleared_below co
 effect width_of display (CursorPosition x y) =
     on_screen
     (λ screen. record screen
-    { column = column_place screen.width screen.column x; row = place (height screen) screen.row y }) display
+    { column = resolved_column screen.width screen.column x; row = resolved (height screen) screen.row y }) display
 effect width_of display (CursorColor color) = display
 effect width_of display (CursorShape shape) = record display { shape = Some shape }
 effect width_of display (CursorVisibility visibility) =

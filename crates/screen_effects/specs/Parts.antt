@@ -1,4 +1,4 @@
--- The parts of a text, from its prefix on, and clusters that stand in cells.
+-- The parts of a text, from its start on, and clusters that cells can hold.
 use Rattle.std.specs.Prelude.{◌≡◌, ℕ, true, ⊤, List, [], ◌∷◌, Bool, not}
 use Rattle.std.specs.Char.{is_ascii_control}
 use Rattle.screen_effects.specs.Strokes.{TextPart, Plain}
@@ -15,6 +15,6 @@ abbrev pub IsAtControl : List ℕ → Type 0
 IsAtControl [] = ⊤
 IsAtControl (byte ∷ text) = is_ascii_control byte ≡ true
 
--- each of the clusters can stand in a cell as it is
+-- a cell can hold each of the clusters unchanged
 abbrev pub stand : List (List ℕ) → Bool
 stand clusters = list_all (λ cluster. not (shows_as_space cluster)) clusters

@@ -5,7 +5,7 @@ use Rattle.cell_base.specs.Row.{Row, plain_row, closed_end}
 use Rattle.cell_base.specs.Screen.{Screen}
 use Rattle.screen_effects.specs.Display.{Display}
 
--- so many of the first elements, and as many others as are missing
+-- the first `size` elements, and `other` for each missing one
 abbrev pub fitted : {A : Type 0} → A → ℕ → List A → List A
 fitted other size xs = take size xs ++ replicate (size - length xs) other
 

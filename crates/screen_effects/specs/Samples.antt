@@ -1,4 +1,4 @@
--- What is seen of a display, for worked examples.
+-- What a display shows, for worked examples.
 use Rattle.std.specs.Prelude.{ℕ, List, [], ◌∷◌, map}
 use Rattle.cell_base.specs.declared.attributes.Position.TheVariants.{Absolute}
 use Rattle.cell_base.specs.Cluster.{program_width}

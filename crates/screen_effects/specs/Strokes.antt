@@ -42,7 +42,7 @@ part_strokes (Plain text) = map Cluster (clusters text)
 abbrev pub strokes : List ℕ → List Stroke
 strokes text = flat_map part_strokes (text_parts text)
 
--- what one does to a screen
+-- the screen after a stroke
 abbrev pub stroke_on : (List ℕ → ℕ) → Screen → Stroke → Screen
 stroke_on width_of screen CarriageReturn = carriage_return screen
 stroke_on width_of screen LineFeed = line_feed screen
@@ -59,7 +59,7 @@ needs_next_row width_of screen (Cluster text) =
 abbrev pub scrolls : (List ℕ → ℕ) → Screen → Stroke → Bool
 scrolls width_of screen stroke = screen.row + 1 == height screen && needs_next_row width_of screen stroke
 
--- the same on a display: the sizes scroll with their rows, and a row that comes has single width
+-- a stroke on a display: the sizes scroll with their rows, and a new row has single width
 abbrev pub stroke_done : (List ℕ → ℕ) → Display → Stroke → Display
 stroke_done width_of display stroke = record display {
   screen = stroke_on width_of display.screen stroke;

@@ -1,4 +1,4 @@
--- Cells as a screen has them, and what is left where they are written side by side.
+-- Cells as a screen has them, and the result of writing them side by side.
 use Rattle.std.specs.Prelude.{◌≡◌, ⊤, ℕ, Bool, true, false, All, nat_le, List, [], ◌∷◌}
 use Rattle.std.specs.List.{flat_map, list_any}
 use Rattle.unicode_segmentation.specs.Grapheme.{graphemes}
@@ -17,12 +17,12 @@ pub record IsCellText (text : List ℕ) : Type 0 where
   pub alone : graphemes true text ≡ text ∷ []
   pub printed : list_any is_ascii_control text ≡ false
 
--- such a text, in as many columns as it takes
+-- a cell's text (`IsCellText`), in as many columns as it takes
 pub record IsSoundText (width_of : List ℕ → ℕ) (text : List ℕ) (wide : Bool) : Type 0 where
   pub stands : IsCellText text
   pub width : nat_le 2 (width_of text) ≡ wide
 
--- each cell has such a text
+-- each cell has a sound text
 abbrev pub AreSound : (List ℕ → ℕ) → List CellContent → Type 0
 AreSound width_of [] = ⊤
 AreSound width_of (cell ∷ cells) = IsSoundText width_of cell.text (nat_le 2 cell.width) × AreSound width_of cells

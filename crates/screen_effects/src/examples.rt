@@ -1,4 +1,4 @@
-//! Worked examples: what is seen of a new display after some changes. Each is the contract of a
+//! Worked examples: what a new display shows after some changes. Each is the contract of a
 //! function that does nothing.
 ghost use Rattle.std.specs.Prelude.{◌≡◌, pos, negsuc, [], ◌∷◌, ◌++◌, codes};
 ghost use Rattle.cell_base.specs.declared.color.ColorAttribute.TheVariants.{Default};
@@ -43,7 +43,7 @@ pub fn clears()
         ≡ record { rows = codes "hel" ∷ codes "w  " ∷ codes "   " ∷ []; column = 1; row = 1 } }
 {}
 
-/// Positions: of two numbers, by the way from the current place, and from the end; the width is the place of a pending
+/// Positions: of two numbers, relative to the current position, and from the end; the width is the column of a pending
 /// wrap.
 pub fn positions()
     ensures relative { seen 4 3

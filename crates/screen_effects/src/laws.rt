@@ -5,7 +5,7 @@ ghost use Rattle.screen_effects.specs.Display.{Display, IsDisplay, new_display};
 ghost use Rattle.screen_effects.specs.Effect.{effect, replay};
 ghost use Rattle.screen_effects.specs.Resize.{resized};
 
-/// A new display is lawful, and so is what changes and other sizes leave of a lawful one.
+/// A new display is lawful, and changes and other sizes keep a lawful display lawful.
 pub fn displays_stay_lawful()
     ensures new { (width : ℕ) (height : ℕ) → 0 < width → 0 < height → IsDisplay (new_display width height) }
     ensures effect { (width_of : List ℕ → ℕ) (display : Display) (change : ChangeValue) → IsDisplay display

@@ -1,6 +1,6 @@
 //! What changes do to a screen: the definitions, their laws, and worked examples.
 //!
-//! - `replay_laws`: what changes that write cells do to a display; repaints and differences stand on these laws.
+//! - `replay_laws`: what changes that write cells do to a display; repaints and differences build on these laws.
 //! - `text`: texts cut at their controls.
 #![tactic(auto)]
 

@@ -19,8 +19,8 @@ pub fn written_cells_are_shown()
 {}
 
 /// Each cell of a screen has a text that is by itself one cluster (UAX 29), without C0 controls and
-/// DEL, and the columns that it takes: a new screen's cells are so, and so are those that changes and
-/// other sizes leave of such a screen. A space takes one column.
+/// DEL, and the columns that it takes: this holds for the cells of a new screen, and changes and other
+/// sizes keep it. A space takes one column.
 pub fn cells_stay_sound()
     ensures new { (width_of : List ℕ → ℕ) (width : ℕ) (height : ℕ) → width_of space ≡ 1
         → IsSoundDisplay width_of (new_display width height) }

@@ -7,7 +7,7 @@ ghost use Rattle.screen_effects.specs.Strokes.{Control, text_parts};
 
 use text_clusters::len_before_ascii_control;
 
-// How many bytes stand before the first control.
+// The number of bytes before the first control.
 fn plain_len(text: &str) -> usize
     ensures { result ≡ len_before_ascii_control text.now }
 {

@@ -10,7 +10,7 @@ use Rattle.cell_edits.specs.VisibleCells.{VisibleCell, texts_joined}
 use Rattle.cell_base.specs.SameAttributes.{same_attributes, same_attributes_decides}
 use Rattle.cell_views.specs.Groups.{AreTogether, GoOn, joined, groups_by, IsCut}
 use Rattle.cell_views.proofs.GroupLemmas.{cut_joined, groups_are_cut}
-use Rattle.screen_formats.specs.Runs.{LooksAs, Run, begins_run, goes_on, run_of, runs_of}
+use Rattle.screen_formats.specs.Runs.{RendersAs, Run, begins_run, goes_on, run_of, runs_of}
 use Rattle.screen_formats.specs.RunSteps.{grown, with_cell}
 
 flat_map-one : {A : Type 0} (f : VisibleCell → List A) (cells : List VisibleCell) (v : VisibleCell) → flat_map f cells ++ f v ≡ flat_map f (cells ++ v ∷ [])
@@ -71,25 +71,25 @@ unless true e = refl
 unless false e = sym e
 
 -- cells that go on after a first one look as the runs that it begins
-others_look : (first : VisibleCell) (rest before cells : List VisibleCell) → GoOn begins_run (first ∷ before) cells → AllByRecursion (LooksAs (run_of (first ∷ rest))) cells
-others_look first rest before [] h = tt
-others_look first rest before (v ∷ cells) h =
+rest_renders : (first : VisibleCell) (rest before cells : List VisibleCell) → GoOn begins_run (first ∷ before) cells → AllByRecursion (RendersAs (run_of (first ∷ rest))) cells
+rest_renders first rest before [] h = tt
+rest_renders first rest before (v ∷ cells) h =
     let alike = and_parts (same_attributes first.cell.attributes v.cell.attributes) (first.cell.width == v.cell.width) (unless (goes_on (run_of (first ∷ before)) v) h.0) in (
       record {
         attributes = sym ((same_attributes_decides first.cell.attributes v.cell.attributes).0 alike.0);
         width = sym (eqb-true first.cell.width v.cell.width alike.1);
       },
-      others_look first rest (before ++ v ∷ []) cells h.1,
+      rest_renders first rest (before ++ v ∷ []) cells h.1,
     )
 
-group_looks : (group : List VisibleCell) → AreTogether begins_run group → AllByRecursion (LooksAs (run_of group)) group
-group_looks [] h = absurd h
-group_looks (first ∷ cells) h = (record { attributes = refl; width = refl }, others_look first cells [] cells h)
+group_renders : (group : List VisibleCell) → AreTogether begins_run group → AllByRecursion (RendersAs (run_of group)) group
+group_renders [] h = absurd h
+group_renders (first ∷ cells) h = (record { attributes = refl; width = refl }, rest_renders first cells [] cells h)
 
-all_look : (groups : List (List VisibleCell)) → IsCut begins_run groups → AllByRecursion (λ group. AllByRecursion (LooksAs (run_of group)) group) groups
-all_look [] h = tt
-all_look (group ∷ []) h = (group_looks group h, tt)
-all_look (group ∷ next ∷ groups) h = (group_looks group h.0, all_look (next ∷ groups) h.2)
+all_render : (groups : List (List VisibleCell)) → IsCut begins_run groups → AllByRecursion (λ group. AllByRecursion (RendersAs (run_of group)) group) groups
+all_render [] h = tt
+all_render (group ∷ []) h = (group_renders group h, tt)
+all_render (group ∷ next ∷ groups) h = (group_renders group h.0, all_render (next ∷ groups) h.2)
 
-pub cells_look_as_runs : (cells : List VisibleCell) → AllByRecursion (λ group. AllByRecursion (LooksAs (run_of group)) group) (groups_by begins_run cells)
-cells_look_as_runs cells = all_look (groups_by begins_run cells) (groups_are_cut begins_run cells).cut
+pub cells_render_as_runs : (cells : List VisibleCell) → AllByRecursion (λ group. AllByRecursion (RendersAs (run_of group)) group) (groups_by begins_run cells)
+cells_render_as_runs cells = all_render (groups_by begins_run cells) (groups_are_cut begins_run cells).cut

@@ -127,8 +127,8 @@ opening_holds width height = (((refl, (refl, (refl, (refl, (refl, (refl, (refl, 
 title_holds : (title : Text) → Holds Xml (Opening (codes "title") [] ∷ Words title ∷ Closing (codes "title") ∷ []) (held_text Xml title)
 title_holds title = (((refl, tt), (tt, (refl, tt))), append-nil (held_text Xml title))
 
-front_holds : (width height title : Text) → Holds Xml (svg_head width height title) (held_text Xml title)
-front_holds width height title =
+prefix_holds : (width height title : Text) → Holds Xml (svg_head width height title) (held_text Xml title)
+prefix_holds width height title =
     let after = rectangle (codes "0") (codes "0") width height (hex_color default_background) [] in
     let titled = holds_both Xml (element (codes "title") [] title) after (held_text Xml title) [] (title_holds title) (rectangle_holds (codes "0") (codes "0") width height (hex_color default_background) []) in
     let all = holds_both Xml (svg_opening width height) (element (codes "title") [] title ++ after) [] (held_text Xml title ++ []) (opening_holds width height) titled in
@@ -141,7 +141,7 @@ svg_holds screen =
     let closed = Closing (codes "svg") ∷ Words (10 ∷ []) ∷ [] in
     let back = holds_both Xml (svg_cursor screen) closed [] (10 ∷ []) (cursor_holds screen) (closing Xml (codes "svg") refl) in
     let rows = holds_both Xml (svg_rows 0 screen.rows) (svg_cursor screen ++ closed) (flat_map (row_content Xml) screen.rows) (10 ∷ []) (svg_rows_hold 0 screen.rows) back in
-    holds_both Xml (svg_head width height screen.title) (svg_rows 0 screen.rows ++ (svg_cursor screen ++ closed)) (held_text Xml screen.title) (flat_map (row_content Xml) screen.rows ++ 10 ∷ []) (front_holds width height screen.title) rows
+    holds_both Xml (svg_head width height screen.title) (svg_rows 0 screen.rows ++ (svg_cursor screen ++ closed)) (held_text Xml screen.title) (flat_map (row_content Xml) screen.rows ++ 10 ∷ []) (prefix_holds width height screen.title) rows
 
 pub svg_read : (screen : Screen) → content (svg_text screen) ≡ Some (svg_content screen)
 svg_read screen = content_back Xml (svg_pieces screen) (svg_holds screen).0 ∙ ap Some (svg_holds screen).1

@@ -11,22 +11,23 @@ use Rattle.cell_base.specs.declared.color.ColorAttribute.TheVariants.{TrueColorW
 use Rattle.cell_base.specs.declared.color.ColorAttribute.TheVariants.{TrueColorWithPaletteFallback}
 use Rattle.cell_edits.specs.VisibleCells.{visible_cells}
 use Rattle.screen_formats.specs.Links.{link_uri}
-use Rattle.screen_formats.specs.Looks.{Text, align_look, blink_look, intensity_look, text_if, underline_look}
+use Rattle.screen_formats.specs.Renditions.{Text, align_rendition, blink_rendition, intensity_rendition, text_if}
+use Rattle.screen_formats.specs.Renditions.{underline_rendition}
 use Rattle.screen_formats.specs.Runs.{Run, runs_of}
 
 -- ---- parameters of SGR, each after a `;`
 
-unfoldable pub look_codes : Attributes → Text
-look_codes a =
-    (intensity_look a.intensity).code
+unfoldable pub rendition_codes : Attributes → Text
+rendition_codes a =
+    (intensity_rendition a.intensity).code
     ++ (text_if a.italic (codes ";3")
-    ++ ((underline_look a.underline).code
-    ++ ((blink_look a.blink).code
+    ++ ((underline_rendition a.underline).code
+    ++ ((blink_rendition a.blink).code
     ++ (text_if a.reverse (codes ";7")
     ++ (text_if a.invisible (codes ";8")
     ++ (text_if a.strikethrough (codes ";9")
     ++ (text_if a.overline (codes ";53")
-    ++ (align_look a.vertical_align).code)))))))
+    ++ (align_rendition a.vertical_align).code)))))))
 
 -- the parameter of a layer (38 text, 48 after it) and its colour
 unfoldable pub color_code : Text → ColorAttribute → Text
@@ -66,7 +67,7 @@ unfoldable pub ansi_run : Run → Text
 ansi_run run =
     27
     ∷ (codes "[0"
-    ++ (look_codes run.attributes
+    ++ (rendition_codes run.attributes
     ++ (color_codes run.attributes ++ 109 ∷ sent_text (sent_uri (link_uri run.attributes)) run.text)))
 
 -- plain attributes and a line feed

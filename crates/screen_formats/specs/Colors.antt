@@ -31,7 +31,7 @@ abbrev pub level : ℕ → ℕ
 level step = if step == 0 then 0 else 55 + 40 * step
 
 abbrev pub cube_color : ℕ → Rgb
-cube_color place = (level (place / 36), level (place / 6 % 6), level (place % 6))
+cube_color position = (level (position / 36), level (position / 6 % 6), level (position % 6))
 
 abbrev pub grey : ℕ → ℕ
 grey step = 8 + 10 * step
@@ -43,7 +43,7 @@ palette_color n =
 
 -- ---- the colours of a cell
 
--- white on black, of the palette, stand for the default colours
+-- the default colours are shown as white on black, of the palette
 abbrev pub default_foreground : Rgb
 default_foreground = palette_color 7
 

@@ -10,7 +10,7 @@ use Rattle.screen_formats.specs.Runs.{runs_of}
 use Rattle.screen_formats.specs.declared.escape.Markup.{Markup}
 use Rattle.screen_formats.specs.declared.escape.Markup.TheVariants.{Html, Xml}
 
--- the text without what stands from a `<` to the next `>`
+-- the text without the bytes from a `<` to the next `>`
 abbrev pub untagged : Bool → List ℕ → List ℕ
 untagged in_tag [] = []
 untagged true (b ∷ text) = if b == 62 then untagged false text else untagged true text

@@ -16,7 +16,7 @@ can_hold Html c = not (c == 0)
 can_hold Xml c =
     c == 9 || c == 10 || c == 13 || is_in_range 0x20 0xD7FF c || is_in_range 0xE000 0xFFFD c || nat_le 0x1_0000 c
 
--- U+FFFD stands for a character that can't be held
+-- U+FFFD replaces a character that the markup can't hold
 abbrev pub held : Markup → ℕ → ℕ
 held markup c = if can_hold markup c then c else 0xFFFD
 
@@ -41,7 +41,7 @@ escaped markup text = flat_map (λ c. escaped_char (held markup c)) (chars text)
 
 -- ---- what is read
 
--- the character that stands between `&` and `;`
+-- the character of the name between `&` and `;`
 abbrev pub named : List ℕ → Option ℕ
 named name =
     if bytes_eq name (codes "amp") then Some 38 else
@@ -69,6 +69,6 @@ read_after (Some name) (b ∷ text) =
     if b == 59 then option_and_then (λ c. put_before (c ∷ []) (read_after None text)) (named name)
     else read_after (Some (name ++ b ∷ [])) text
 
--- what a text reads as: nothing where a tag begins or ends in it, a quote stands in it, or an entity of another name
+-- what a text reads as: nothing where it holds the start or end of a tag, a quote, or an entity of another name
 abbrev pub unescaped : List ℕ → Option (List ℕ)
 unescaped text = read_after None text

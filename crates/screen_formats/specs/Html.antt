@@ -8,7 +8,7 @@ use Rattle.cell_base.specs.Screen.{Screen}
 use Rattle.cell_edits.specs.VisibleCells.{visible_cells}
 use Rattle.screen_formats.specs.Colors.{default_background, default_foreground, has_background, hex_color, ink, paper}
 use Rattle.screen_formats.specs.Links.{link_uri}
-use Rattle.screen_formats.specs.Looks.{color_style, look_style, look_words}
+use Rattle.screen_formats.specs.Renditions.{color_style, rendition_style, rendition_words}
 use Rattle.screen_formats.specs.Pieces.{Piece, Opening, Closing, Words, element, pieces_text}
 use Rattle.screen_formats.specs.Runs.{Run, runs_of}
 use Rattle.screen_formats.specs.declared.escape.Markup.TheVariants.{Html}
@@ -20,7 +20,7 @@ background_style a = if has_background a then color_style (codes "background-col
 abbrev pub is_uneven : Run → Bool
 is_uneven run = run.width == 2 || not (list_all is_printable run.text)
 
--- such cells take their columns whatever the font; `ch` is the width of a digit
+-- uneven cells take their columns whatever the font; `ch` is the width of a digit
 abbrev pub width_style : Bool → ℕ → List ℕ
 width_style is_set columns =
     if is_set then codes "display:inline-block;width:" ++ decimal columns ++ codes "ch;" else []
@@ -30,7 +30,7 @@ ink_style a = color_style (codes "color") (hex_color (ink a))
 
 -- the style of cells that take some columns, which are set or those of the font
 unfoldable pub html_style : Attributes → Bool → ℕ → List ℕ
-html_style a is_set columns = ink_style a ++ (background_style a ++ (look_style a ++ width_style is_set columns))
+html_style a is_set columns = ink_style a ++ (background_style a ++ (rendition_style a ++ width_style is_set columns))
 
 -- a link where there is one
 abbrev pub html_name : List ℕ → List ℕ
@@ -42,7 +42,7 @@ html_element uri words style text =
 
 unfoldable pub html_run : Run → List Piece
 html_run run =
-    html_element (link_uri run.attributes) (look_words run.attributes)
+    html_element (link_uri run.attributes) (rendition_words run.attributes)
     (html_style run.attributes (is_uneven run) run.columns) run.text
 
 -- the runs of a row, and a line feed

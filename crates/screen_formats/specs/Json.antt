@@ -15,7 +15,7 @@ use Rattle.serde_json.specs.View.{items_of}
 use Rattle.serde_json.specs.Written.{compact_text}
 use Rattle.screen_formats.specs.Colors.{hex_color}
 use Rattle.screen_formats.specs.Links.{link_uri}
-use Rattle.screen_formats.specs.Looks.{look_words}
+use Rattle.screen_formats.specs.Renditions.{rendition_words}
 use Rattle.screen_formats.specs.Runs.{Run, runs_of}
 
 -- nothing where no colour was set, the number of one of the palette, and `#rrggbb` for any other
@@ -41,7 +41,7 @@ unfoldable pub attributes_data : Attributes → Data
 attributes_data a =
     object (member (codes "colors") (colors_data a)
     (member (codes "link") (string (link_uri a))
-    (member (codes "looks") (string (look_words a))
+    (member (codes "looks") (string (rendition_words a))
     (member (codes "semantic_type") (string (semantic_word a.semantic_type))
     (member (codes "wrapped") (boolean a.wrapped)
     no_members)))))

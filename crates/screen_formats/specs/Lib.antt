@@ -5,7 +5,7 @@ pub mod Escape
 pub mod Html
 pub mod Json
 pub mod Links
-pub mod Looks
+pub mod Renditions
 pub mod Pieces
 pub mod RunSteps
 pub mod RunView

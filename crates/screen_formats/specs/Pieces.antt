@@ -8,7 +8,7 @@ use Rattle.screen_formats.specs.declared.escape.Markup.{Markup}
 abbrev pub Attribute : Type 0
 Attribute = List ℕ × List ℕ
 
--- A tag that opens an element has a name and attributes, one that closes it has its name, and between tags stand texts.
+-- A tag that opens an element has a name and attributes, one that closes it has its name, and between tags are texts.
 pub data Piece : Type 0 where
   Opening : List ℕ → List Attribute → Piece
   Closing : List ℕ → Piece

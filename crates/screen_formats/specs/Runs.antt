@@ -41,7 +41,7 @@ abbrev pub begins_run : List VisibleCell → VisibleCell → Bool
 begins_run cells v = not (goes_on (run_of cells) v)
 
 -- a cell has the attributes and the width of a run
-pub record LooksAs (run : Run) (v : VisibleCell) : Type 0 where
+pub record RendersAs (run : Run) (v : VisibleCell) : Type 0 where
   pub attributes : v.cell.attributes ≡ run.attributes
   pub width : v.cell.width ≡ run.width
 

@@ -8,7 +8,7 @@ use Rattle.cell_base.specs.Screen.{Screen}
 use Rattle.cell_edits.specs.VisibleCells.{visible_cells}
 use Rattle.screen_formats.specs.Colors.{default_background, default_foreground, has_background, hex_color, ink, paper}
 use Rattle.screen_formats.specs.Links.{link_uri}
-use Rattle.screen_formats.specs.Looks.{color_style, look_style, look_words}
+use Rattle.screen_formats.specs.Renditions.{color_style, rendition_style, rendition_words}
 use Rattle.screen_formats.specs.Pieces.{Piece, Opening, Closing, Words, element, pieces_text}
 use Rattle.screen_formats.specs.Runs.{Run, runs_of}
 use Rattle.screen_formats.specs.declared.escape.Markup.TheVariants.{Xml}
@@ -23,7 +23,7 @@ column_units columns = decimal (10 * columns)
 abbrev pub row_units : ℕ → Text
 row_units rows = decimal (20 * rows)
 
--- where the letters of a row stand
+-- the base line of the letters of a row
 abbrev pub base_line : ℕ → Text
 base_line row = decimal (20 * row + 15)
 
@@ -51,9 +51,9 @@ linked uri pieces =
 -- ---- runs
 
 unfoldable pub svg_style : Attributes → Text
-svg_style a = color_style (codes "fill") (hex_color (ink a)) ++ look_style a
+svg_style a = color_style (codes "fill") (hex_color (ink a)) ++ rendition_style a
 
--- what follows a run, if a colour is seen there
+-- the background of a run, if a colour is seen there
 unfoldable pub svg_paper : ℕ → Run → List Piece
 svg_paper row run =
     if has_background run.attributes
@@ -62,7 +62,7 @@ svg_paper row run =
 
 abbrev pub svg_letters : ℕ → Run → List Piece
 svg_letters row run =
-    placed_text (column_units run.column) (base_line row) (column_units run.columns) (look_words run.attributes)
+    placed_text (column_units run.column) (base_line row) (column_units run.columns) (rendition_words run.attributes)
     (svg_style run.attributes) run.text
 
 unfoldable pub svg_text_of : ℕ → Run → List Piece
@@ -70,12 +70,12 @@ svg_text_of row run = linked (link_uri run.attributes) (svg_letters row run)
 
 -- ---- the screen
 
--- of a run its text, or what follows it
+-- of a run its text, or its background
 abbrev pub svg_part : Bool → ℕ → Run → List Piece
 svg_part true row run = svg_text_of row run
 svg_part false row run = svg_paper row run
 
--- the texts stand before all that is after them
+-- the backgrounds of the runs come first, and then the texts, drawn over them
 abbrev pub svg_runs : ℕ → List Run → List Piece
 svg_runs row runs = flat_map (svg_part false row) runs ++ flat_map (svg_part true row) runs
 

@@ -3,11 +3,13 @@ ghost use Rattle.std.specs.Prelude.{◌≡◌, ◌++◌, map, IfOk, OnOk};
 ghost use Rattle.std.specs.String.{string_bytes};
 ghost use Rattle.std.specs.List.{flat_map};
 ghost use Rattle.cell_surface.specs.Surface.{shown_by};
-ghost use Rattle.screen_formats.specs.Ansi.{ansi_row, ansi_run, ansi_text, color_code, color_codes, look_codes};
+ghost use Rattle.screen_formats.specs.Ansi.{ansi_row, ansi_run, ansi_text, color_code, color_codes, rendition_codes};
 ghost use Rattle.screen_formats.specs.Ansi.{sent_text, sent_uri, underline_color_code};
 
 use crate::links::link_uri;
-use crate::looks::{align_look, blink_look, intensity_look, text_if, underline_look};
+use crate::renditions::{
+    align_rendition, blink_rendition, intensity_rendition, text_if, underline_rendition,
+};
 use crate::runs::{Run, line_runs};
 use cell_base::{CellAttributes, ColorAttribute, Widths};
 use cell_line::Line;
@@ -16,19 +18,19 @@ use std::alloc::{AllocError, Global};
 use text_clusters::are_printable;
 
 // The parameters of how a text looks, less its colours.
-#[tactic(auto, unfolding(crate::specs::Ansi::look_codes))]
-fn look_codes(alloc: Global, attrs: &CellAttributes) -> Result<String, AllocError>
-    ensures { IfOk result (λ codes. string_bytes codes ≡ look_codes attrs.now) }
+#[tactic(auto, unfolding(crate::specs::Ansi::rendition_codes))]
+fn rendition_codes(alloc: Global, attrs: &CellAttributes) -> Result<String, AllocError>
+    ensures { IfOk result (λ codes. string_bytes codes ≡ rendition_codes attrs.now) }
 {
-    let intensity = intensity_look(attrs.intensity()).code;
+    let intensity = intensity_rendition(attrs.intensity()).code;
     let italic = text_if(attrs.italic(), ";3");
-    let underline = underline_look(attrs.underline()).code;
-    let blink = blink_look(attrs.blink()).code;
+    let underline = underline_rendition(attrs.underline()).code;
+    let blink = blink_rendition(attrs.blink()).code;
     let reverse = text_if(attrs.reverse(), ";7");
     let invisible = text_if(attrs.invisible(), ";8");
     let strikethrough = text_if(attrs.strikethrough(), ";9");
     let overline = text_if(attrs.overline(), ";53");
-    let align = align_look(attrs.vertical_align()).code;
+    let align = align_rendition(attrs.vertical_align()).code;
     let text = format!(in alloc;
         "{intensity}{italic}{underline}{blink}{reverse}{invisible}{strikethrough}{overline}{align}"
     )?;
@@ -116,9 +118,9 @@ fn push_text(out: &mut String, uri: &str, text: &str) -> Result<(), AllocError>
 fn push_run(alloc: Global, out: &mut String, run: &Run<'_>) -> Result<(), AllocError>
     ensures { OnOk result (string_bytes out.new ≡ string_bytes out.old ++ ansi_run run.now) }
 {
-    let looks = look_codes(alloc, run.attrs)?;
+    let renditions = rendition_codes(alloc, run.attrs)?;
     let colors = color_codes(alloc, run.attrs)?;
-    write!(out, "\x1b[0{looks}{colors}m")?;
+    write!(out, "\x1b[0{renditions}{colors}m")?;
     push_text(out, sent_uri(link_uri(run.attrs)), &run.text)?;
     Ok(())
 }
@@ -151,7 +153,7 @@ fn push_rows(alloc: Global, out: &mut String, lines: &[Line]) -> Result<(), Allo
 /// before it, in a link (OSC 8) where it has one of the scheme http, https, mailto or file that is printable ASCII; and
 /// after each row plain attributes and a line feed.
 ///
-/// Of a surface that has failed nothing is said but that its cells are written.
+/// Of a surface that has failed the contract says only that its cells are written.
 pub fn write_ansi<W: Widths + Drop>(
     alloc: Global,
     out: &mut String,

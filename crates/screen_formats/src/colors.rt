@@ -1,4 +1,4 @@
-//! The colours of cells: those of xterm's palette of 256, direct ones, and what stands for the default ones.
+//! The colours of cells: those of xterm's palette of 256, direct ones, and those shown for the default ones.
 ghost use Rattle.std.specs.Prelude.{◌≡◌, ◌<◌, slice_index_or, IfOk};
 ghost use Rattle.std.specs.String.{string_bytes};
 ghost use Rattle.screen_formats.specs.Colors.{color_of, default_background, default_foreground, foreground_color, grey};
@@ -31,10 +31,10 @@ const SYSTEM: [Rgb; 16] = [
     (255, 255, 255),
 ];
 
-/// What stands for the default colour of a text.
+/// The colour shown for the default colour of a text.
 pub const DEFAULT_FOREGROUND: Rgb = (229, 229, 229);
 
-/// What stands for the default colour after a text.
+/// The colour shown for the default background of a text.
 pub const DEFAULT_BACKGROUND: Rgb = (0, 0, 0);
 
 // One of the six levels of the colour cube.
@@ -61,14 +61,18 @@ pub fn palette_color(index: u8) -> Rgb
         return SYSTEM[index as usize];
     }
     if index < 232 {
-        let place = index - 16;
-        return (level(place / 36), level(place / 6 % 6), level(place % 6));
+        let position = index - 16;
+        return (
+            level(position / 36),
+            level(position / 6 % 6),
+            level(position % 6),
+        );
     }
     let shade = grey(index - 232);
     (shade, shade, shade)
 }
 
-// A colour as it is shown, where another one stands for the default.
+// A colour as it is shown, with `default` for the default.
 pub(crate) fn color_of(default: Rgb, color: ColorAttribute) -> Rgb
     ensures { result ≡ color_of default color }
 {

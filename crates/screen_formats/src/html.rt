@@ -10,8 +10,8 @@ ghost use Rattle.screen_formats.specs.declared.escape.Markup.TheVariants.{Html};
 use crate::colors::{DEFAULT_BACKGROUND, DEFAULT_FOREGROUND, has_background, ink, paper};
 use crate::escape::Markup;
 use crate::links::link_uri;
-use crate::looks::{color_style, look_style, look_words};
 use crate::pieces::{push_closing, push_element, push_opening, push_words};
+use crate::renditions::{color_style, rendition_style, rendition_words};
 use crate::runs::{Run, line_runs};
 use cell_base::{CellAttributes, Widths};
 use cell_line::Line;
@@ -68,9 +68,9 @@ fn html_style(
 {
     let color = ink_style(alloc, attrs)?;
     let background = background_style(alloc, attrs)?;
-    let look = look_style(alloc, attrs)?;
+    let rendition = rendition_style(alloc, attrs)?;
     let width = width_style(alloc, is_set, columns)?;
-    let style = format!(in alloc; "{color}{background}{look}{width}")?;
+    let style = format!(in alloc; "{color}{background}{rendition}{width}")?;
     Ok(style)
 }
 
@@ -108,7 +108,7 @@ fn push_html_element<'a>(
 fn push_run(alloc: Global, out: &mut String, run: &Run<'_>) -> Result<(), AllocError>
     ensures { OnOk result (string_bytes out.new ≡ string_bytes out.old ++ pieces_text Html (html_run run.now)) }
 {
-    let words = look_words(alloc, run.attrs)?;
+    let words = rendition_words(alloc, run.attrs)?;
     let style = html_style(alloc, run.attrs, is_uneven(run), run.columns)?;
     push_html_element(out, link_uri(run.attrs), &words, &style, &run.text)?;
     Ok(())
@@ -153,10 +153,10 @@ fn screen_style(alloc: Global) -> Result<String, AllocError>
 /// Writes a screen as HTML: an element `pre` of class `screen`, in which each row has a line feed after it. A run is a
 /// `span`, or an `a` where it has a link of the scheme http, https, mailto or file. Its class tells how it looks, in
 /// the
-/// words of `look_words`, and its style is complete but for texts that blink or are raised or lowered. Cells that a
-/// font may give other widths take their columns.
+/// words of `rendition_words`, and its style is complete except for texts that blink or are raised or lowered. Cells
+/// that a font may give other widths take their columns.
 ///
-/// Of a surface that has failed nothing is said but that its cells are written.
+/// Of a surface that has failed the contract says only that its cells are written.
 pub fn write_html<W: Widths + Drop>(
     alloc: Global,
     out: &mut String,

@@ -11,7 +11,7 @@ ghost use Rattle.screen_formats.specs.Json.{rows_data, run_data, screen_data, se
 
 use crate::colors::hex_color;
 use crate::links::link_uri;
-use crate::looks::look_words;
+use crate::renditions::rendition_words;
 use crate::runs::{Run, line_runs};
 use cell_base::{CellAttributes, ColorAttribute, CursorVisibility, SemanticType, Widths};
 use cell_line::Line;
@@ -70,12 +70,12 @@ fn attributes_value(alloc: Global, attrs: &CellAttributes) -> Result<Value, Allo
     ensures { IfOk result (λ value. view value ≡ attributes_data attrs.now) }
 {
     let colors = colors_value(alloc, attrs)?;
-    let looks = look_words(alloc, attrs)?;
+    let renditions = rendition_words(alloc, attrs)?;
     let semantic = semantic_word(attrs.semantic_type());
     let value = json!(in alloc; {
         "colors": colors,
         "link": link_uri(attrs),
-        "looks": looks,
+        "looks": renditions,
         "semantic_type": semantic,
         "wrapped": attrs.wrapped()
     })?;
@@ -198,13 +198,12 @@ fn screen_value<W: Widths + Drop>(alloc: Global, surface: &Surface<W>) -> Result
 /// - `rows`, each a list of runs: `text`, the texts of its cells, joined; `column`, the first of the first cell,
 /// counted
 ///   from 0; `columns`, how many all take, and `width`, how many each takes; and `attributes`;
-/// - of attributes `colors`, the `foreground`, the `background` and that of the `underline`: empty where none was
-/// set, the
-///   number of one of the palette, `#rrggbb` of any other; `looks`, in the words of `look_words`; `link`, a URI of the
-///   scheme http, https, mailto or file, or else empty; `wrapped`, whether the line goes on in the next row after the
-///   cell; and `semantic_type`: `output`, `input` or `prompt`.
+/// - of attributes `colors`, the `foreground`, the `background` and that of the `underline`: empty where none was set,
+///   the number of one of the palette, `#rrggbb` of any other; `looks`, in the words of `rendition_words`; `link`, a
+///   URI of the scheme http, https, mailto or file, or else empty; `wrapped`, whether the line goes on in the next row
+///   after the cell; and `semantic_type`: `output`, `input` or `prompt`.
 ///
-/// Of a surface that has failed nothing is said but that its cells are written.
+/// Of a surface that has failed the contract says only that its cells are written.
 pub fn write_json<W: Widths + Drop>(
     alloc: Global,
     out: &mut String,

@@ -3,7 +3,7 @@ ghost use Rattle.std.specs.Prelude.{◌≡◌, List, Some, map};
 ghost use Rattle.std.specs.List.{AllByRecursion, flat_map};
 ghost use Rattle.cell_edits.specs.VisibleCells.{VisibleCell, texts_joined};
 ghost use Rattle.cell_views.specs.Groups.{AreGroupsOf, groups_by};
-ghost use Rattle.screen_formats.specs.Runs.{LooksAs, begins_run, run_of, runs_of};
+ghost use Rattle.screen_formats.specs.Runs.{RendersAs, begins_run, run_of, runs_of};
 ghost use Rattle.cell_base.specs.Screen.{Screen};
 ghost use Rattle.screen_formats.specs.Content.{AreTagged, content, html_content, pieces_content, svg_content};
 ghost use Rattle.screen_formats.specs.Escape.{escaped, held_text, unescaped};
@@ -22,8 +22,8 @@ pub fn escaped_texts_read_back(markup: Markup, text: &str)
     let _text = text;
 }
 
-/// What a reader who passes over the tags sees of pieces are their texts, one after the other, whatever stands in them
-/// and in the values of attributes.
+/// What a reader who passes over the tags sees of pieces are their texts, one after the other, whatever the texts and
+/// the values of attributes hold.
 #[tactic(auto, using(crate::proofs::ContentLemmas::content_back))]
 pub fn pieces_hold_their_texts(markup: Markup)
     ensures { (pieces : List Piece) → AreTagged pieces
@@ -40,7 +40,8 @@ pub fn html_holds_the_cells()
     ensures { (screen : Screen) → content (html_text screen) ≡ Some (html_content screen) }
 {}
 
-/// What such a reader sees of a screen in SVG are its title and the texts of its visible cells, in order.
+/// What a reader who passes over the tags sees of a screen in SVG are its title and the texts of its visible cells, in
+/// order.
 #[tactic(auto, using(crate::proofs::ScreenContent::svg_read))]
 pub fn svg_holds_the_cells()
     ensures { (screen : Screen) → content (svg_text screen) ≡ Some (svg_content screen) }
@@ -54,6 +55,6 @@ pub fn runs_hold_the_cells()
     ensures texts { (cells : List VisibleCell) → flat_map (λ run. run.text) (runs_of cells) ≡ texts_joined cells }
     ensures cut { (cells : List VisibleCell) → AreGroupsOf begins_run cells (groups_by begins_run cells) }
     ensures runs { (cells : List VisibleCell) → runs_of cells ≡ map run_of (groups_by begins_run cells) }
-    ensures looks { (cells : List VisibleCell)
-        → AllByRecursion (λ group. AllByRecursion (LooksAs (run_of group)) group) (groups_by begins_run cells) }
+    ensures renditions { (cells : List VisibleCell)
+        → AllByRecursion (λ group. AllByRecursion (RendersAs (run_of group)) group) (groups_by begins_run cells) }
 {}

@@ -14,8 +14,8 @@ use crate::colors::{
 };
 use crate::escape::Markup;
 use crate::links::link_uri;
-use crate::looks::{color_style, look_style, look_words};
 use crate::pieces::{push_closing, push_element, push_opening, push_words};
+use crate::renditions::{color_style, rendition_style, rendition_words};
 use crate::runs::{Run, line_runs};
 use cell_base::{CellAttributes, CursorVisibility, Widths};
 use cell_line::Line;
@@ -40,7 +40,7 @@ fn row_units(alloc: Global, rows: usize) -> Result<String, AllocError>
     Ok(text)
 }
 
-// Where the letters of a row stand, in units.
+// The base line of the letters of a row, in units.
 fn base_line(alloc: Global, row: usize) -> Result<String, AllocError>
     ensures { IfOk result (λ text. string_bytes text ≡ base_line row) }
 {
@@ -55,7 +55,7 @@ fn svg_style(alloc: Global, attrs: &CellAttributes) -> Result<String, AllocError
     ensures { IfOk result (λ style. string_bytes style ≡ svg_style attrs.now) }
 {
     let mut style = color_style(alloc, "fill", ink(attrs))?;
-    style.push_str(&look_style(alloc, attrs)?)?;
+    style.push_str(&rendition_style(alloc, attrs)?)?;
     Ok(style)
 }
 
@@ -151,7 +151,7 @@ fn push_letters(
     let x = column_units(alloc, run.column)?;
     let y = base_line(alloc, row)?;
     let len = column_units(alloc, run.columns)?;
-    let words = look_words(alloc, run.attrs)?;
+    let words = rendition_words(alloc, run.attrs)?;
     let style = svg_style(alloc, run.attrs)?;
     push_placed_text(out, &x, &y, &len, &words, &style, &run.text)?;
     Ok(())
@@ -328,14 +328,14 @@ fn push_end(out: &mut String) -> Result<(), AllocError>
     Ok(())
 }
 
-/// Writes a screen as SVG: columns of 10 units and rows of 20, with the title, a rectangle after each run of which a
+/// Writes a screen as SVG: columns of 10 units and rows of 20, with the title, a rectangle behind each run of which a
 /// background is seen, the text of each run, as long as its columns, in a link where it has one of the scheme http,
 /// https, mailto or file, and a rectangle for the cursor, if it is shown. Wide cells take two columns each. The class
 /// of
-/// a text tells how it looks, in the words of `look_words`, and its style is complete but for texts that blink or are
-/// raised or lowered.
+/// a text tells how it looks, in the words of `rendition_words`, and its style is complete except for texts that blink
+/// or are raised or lowered.
 ///
-/// Of a surface that has failed nothing is said but that its cells are written.
+/// Of a surface that has failed the contract says only that its cells are written.
 pub fn write_svg<W: Widths + Drop>(
     alloc: Global,
     out: &mut String,

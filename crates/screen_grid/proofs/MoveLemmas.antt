@@ -63,8 +63,8 @@ module _ {X : Type 0} (f : X → X) (lines new : List X) (first after count : �
   abbrev region : List X
   region = take (after - first) (drop first lines)
 
-  front_length : length (take first lines) ≡ first
-  front_length = length-take-le first lines (omega arith)
+  prefix_length : length (take first lines) ≡ first
+  prefix_length = length-take-le first lines (omega arith)
 
   region_length : length region ≡ after - first
   region_length = let r = length-drop first lines in length-take-le (after - first) (drop first lines) (omega arith)
@@ -74,7 +74,7 @@ module _ {X : Type 0} (f : X → X) (lines new : List X) (first after count : �
       → take (after - count) new ++ map f (take (after - (after - count)) (drop (after - count) new)) ++ drop after new
       ≡ take first lines ++ (drop count region ++ map f (take count region)) ++ drop after lines
   moved_up e =
-      let a = front_length in
+      let a = prefix_length in
       let n = region_length in
       let b = length-drop count region in
       let c = length-take-le count region (omega arith) in
@@ -88,15 +88,15 @@ module _ {X : Type 0} (f : X → X) (lines new : List X) (first after count : �
       → take first new ++ map f (take (first + count - first) (drop first new)) ++ drop (first + count) new
       ≡ take first lines ++ (map f (drop (length region - count) region) ++ take (length region - count) region) ++ drop after lines
   moved_down e =
-      let a = front_length in
+      let a = prefix_length in
       let n = region_length in
       let kept : after - first - count ≡ length region - count = omega arith in
       let b = length-drop (after - first - count) region in
-      let gone = drop (after - first - count) region in
+      let dropped = drop (after - first - count) region in
       let stay = take (after - first - count) region in
-      changed_between f (take first lines) gone (stay ++ drop after lines) new first (first + count) a (omega arith)
-      (e ∙ ap (λ (xs : List X). xs ++ drop after lines) (sym (append_assoc (take first lines) gone stay)) ∙ append_assoc (take first lines ++ gone) stay (drop after lines))
-      ∙ sym (append_assoc (take first lines ++ map f gone) stay (drop after lines)) ∙ ap (λ (xs : List X). xs ++ drop after lines) (append_assoc (take first lines) (map f gone) stay)
+      changed_between f (take first lines) dropped (stay ++ drop after lines) new first (first + count) a (omega arith)
+      (e ∙ ap (λ (xs : List X). xs ++ drop after lines) (sym (append_assoc (take first lines) dropped stay)) ∙ append_assoc (take first lines ++ dropped) stay (drop after lines))
+      ∙ sym (append_assoc (take first lines ++ map f dropped) stay (drop after lines)) ∙ ap (λ (xs : List X). xs ++ drop after lines) (append_assoc (take first lines) (map f dropped) stay)
       ∙ ap (λ m. take first lines ++ (map f (drop m region) ++ take m region) ++ drop after lines) kept
 
 pub one_more : {X : Type 0} (n : ℕ) (x : X) → replicate n x ++ x ∷ [] ≡ replicate (suc n) x

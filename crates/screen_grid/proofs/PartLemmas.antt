@@ -26,8 +26,8 @@ plain_puts width_of d text p = ap (parts_done width_of d) (plain_parts text p �
 
 module _ {W : Type 0} (width_of : List ℕ → ℕ) where
   -- the start of a text was drawn
-  pub front_leads : (c new : Grid W) (text prefix rest : List ℕ) → Shows c new (clusters_done width_of (display_of c) (clusters prefix)) → text_parts text ≡ plain_part prefix ++ text_parts rest → IsAtControl rest → PartsLead width_of c new text rest
-  front_leads c new text prefix rest s e k = record {
+  pub prefix_leads : (c new : Grid W) (text prefix rest : List ℕ) → Shows c new (clusters_done width_of (display_of c) (clusters prefix)) → text_parts text ≡ plain_part prefix ++ text_parts rest → IsAtControl rest → PartsLead width_of c new text rest
+  prefix_leads c new text prefix rest s e k = record {
     same = ap (λ (d : Display). parts_done width_of d (text_parts rest)) (s.same ∙ sym (plain_done width_of (display_of c) prefix))
         ∙ sym (done-append width_of (display_of c) (plain_part prefix) (text_parts rest)) ∙ ap (parts_done width_of (display_of c)) (sym e);
     widths = s.widths;

@@ -23,8 +23,8 @@ module _ {X : Type 0} (d : X) (old now new : List X) (start at : ℕ) where
       ∙ sym (take_more (drop start old) at d (omega arith))
 
   -- the others stand where they stood
-  pub others_stay : start + at < length old → length now ≡ length old → drop (start + at) now ≡ drop (start + at) old → new ≡ swap now at (start + at) → drop (start + (at + 1)) new ≡ drop (start + (at + 1)) old
-  others_stay h n rest e =
+  pub rest_stay : start + at < length old → length now ≡ length old → drop (start + at) now ≡ drop (start + at) old → new ≡ swap now at (start + at) → drop (start + (at + 1)) new ≡ drop (start + (at + 1)) old
+  rest_stay h n rest e =
       let y = get_or now (start + at) d in
       let next : start + (at + 1) ≡ start + at + 1 = omega arith in
       ap (drop (start + (at + 1))) (e ∙ sym (swap_is now at (start + at) d (omega arith) (omega arith)))
@@ -35,7 +35,7 @@ module _ {X : Type 0} (d : X) (old now new : List X) (start at : ℕ) where
 pub brought : {X : Type 0} (old now new : List X) (start at : ℕ) → 0 < start → start + at < length old → length now ≡ length old → take at now ≡ take at (drop start old) → drop (start + at) now ≡ drop (start + at) old → new ≡ swap now at (start + at)
     → (take (at + 1) new ≡ take (at + 1) (drop start old)) × (drop (start + (at + 1)) new ≡ drop (start + (at + 1)) old)
 brought [] now new start at some h n prefix rest e = absurd (omega arith)
-brought (d ∷ ys) now new start at some h n prefix rest e = (brought_more d (d ∷ ys) now new start at some h n prefix rest e, others_stay d (d ∷ ys) now new start at h n rest e)
+brought (d ∷ ys) now new start at some h n prefix rest e = (brought_more d (d ∷ ys) now new start at some h n prefix rest e, rest_stay d (d ∷ ys) now new start at h n rest e)
 
 -- the first ones of the first ones
 first_of_both : {X : Type 0} (n len : ℕ) (xs : List X) → take n (take len xs) ≡ take (min len n) xs
@@ -82,9 +82,9 @@ as_many xs ys value start next len e h same k =
     length-take-le len (drop next ys) (omega arith) ∙ sym n
 
 -- where the first becomes the last
-pub rotated_front : {X : Type 0} (xs : List X) → take (length xs - 1) (drop 1 xs ++ take 1 xs) ≡ drop 1 xs
-rotated_front [] = refl
-rotated_front (x ∷ xs) = take_at xs (x ∷ []) (length (x ∷ xs) - 1) (omega arith)
+pub rotated_prefix : {X : Type 0} (xs : List X) → take (length xs - 1) (drop 1 xs ++ take 1 xs) ≡ drop 1 xs
+rotated_prefix [] = refl
+rotated_prefix (x ∷ xs) = take_at xs (x ∷ []) (length (x ∷ xs) - 1) (omega arith)
 
 -- ---- items that are lent
 

@@ -18,12 +18,12 @@ use Rattle.cell_edits.specs.CellList.{cell_columns, text_cells}
 use Rattle.cell_edits.specs.RowEdits.{overlaid}
 use Rattle.cell_edits.specs.TextRuns.{fitting, plain_cells}
 use Rattle.cell_edits.proofs.RowLaws.{overlaid_next}
-use Rattle.cell_edits.proofs.RunLemmas.{cells_front, each_length, fitting_cell, fitting_front, fitting_stops, plain_count, plain_length}
+use Rattle.cell_edits.proofs.RunLemmas.{cells_prefix, each_length, fitting_cell, fitting_prefix, fitting_stops, plain_count, plain_length}
 use Rattle.cell_line.specs.LineCalls.{set_plain as plain_set}
 use Rattle.screen_grid.specs.Grid.{Grid, IsDrawn, Shows, LeadsOn, clusters_done, grid_with, display_of, line_at, line_with}
 use Rattle.screen_effects.specs.Parts.{stand}
 use Rattle.screen_grid.proofs.LineLemmas.{line_width, row_in}
-use Rattle.screen_grid.proofs.PartLemmas.{front_leads}
+use Rattle.screen_grid.proofs.PartLemmas.{prefix_leads}
 use Rattle.screen_grid.proofs.PutLemmas.{put_here}
 use Rattle.screen_effects.proofs.TextLemmas.{plain_parts, plain_stands, printable_all}
 use Rattle.screen_effects.specs.Display.{Display}
@@ -34,7 +34,7 @@ cells_of_plain : (width_of : List ℕ → ℕ) (text : List ℕ) (a : Attributes
 cells_of_plain width_of text a p narrow =
     let none : text_cells width_of [] a ≡ [] = ap (λ xs. map (λ cluster. cell_of cluster (width_of cluster) a) (map read_cluster xs)) graphemes-nil in
     let each_one : graphemes true text ≡ each text ++ graphemes true [] = whole_run text (printable_all text p) ∙ sym (append-nil (each text)) ∙ ap (λ (xs : List (List ℕ)). each text ++ xs) (sym graphemes-nil) in
-    cells_front width_of a text text [] each_one p narrow ∙ ap (λ (xs : List CellContent). plain_cells text a ++ xs) none ∙ append-nil (plain_cells text a)
+    cells_prefix width_of a text text [] each_one p narrow ∙ ap (λ (xs : List CellContent). plain_cells text a ++ xs) none ∙ append-nil (plain_cells text a)
 
 set_set : {A : Type 0} (xs : List A) (i : ℕ) (x y : A) → set (set xs i x) i y ≡ set xs i y
 set_set [] i x y = refl
@@ -129,7 +129,7 @@ module _ {W : Type 0} (width_of : List ℕ → ℕ) where
 
       fits : n ≤ room → Holds (fitting_here c (g ∷ gs))
       fits k =
-          let place = h.lawful.lawful.column_in in
+          let position = h.lawful.lawful.column_in in
           let here = grid_with c (cell_columns cell) n in
           let step = put_here width_of c g (cell_columns cell) n h (same_columns width_of g c.width c.pen (not_true (shows_as_space g) parts.0) (omega arith)) refl (omega arith) in
           let rest = remaining here step.drawn parts.1 in
@@ -174,11 +174,11 @@ module _ {W : Type 0} (width_of : List ℕ → ℕ) where
       let cells = plain_cells text c.pen in
       let made_of : map (made width_of c.pen) gs ≡ cells ++ [] = cells_of_plain width_of text c.pen p narrow ∙ sym (append-nil cells) in
       let room : length text ≤ c.width - c.column = omega arith in
-      let fit : fitting_here c gs ≡ cells = ap (fitting (c.width - c.column)) made_of ∙ fitting_front (c.width - c.column) text c.pen [] room ∙ append-nil cells in
+      let fit : fitting_here c gs ≡ cells = ap (fitting (c.width - c.column)) made_of ∙ fitting_prefix (c.width - c.column) text c.pen [] room ∙ append-nil cells in
       let count = plain_count text c.pen in
       let same : grid_on c (fitting_here c gs) ≡ new = ap (grid_on c) fit ∙ (λ i. record c { lines = set c.lines c.row (plain_set (line_at c.lines c.row) c.column text c.pen); column = c.column + count i }) ∙ sym is in
       let many : length (fitting_here c gs) ≡ length gs = ap length fit ∙ plain_length text c.pen ∙ sym (each_length text) ∙ ap length (sym (plain_alone text (printable_all text p))) in
       let left : [] ≡ drop (length (fitting_here c gs)) gs = sym (drop_all (length (fitting_here c gs)) gs (omega arith)) in
       let leads = subst (λ (x : Grid W). LeadsOn width_of c x gs []) same (leads_on c gs [] h (plain_stands text p whole) left) in
-      let parts = front_leads width_of c new text text [] (record { same = leads.same; widths = leads.widths; drawn = leads.drawn }) (plain_parts text p) tt in
+      let parts = prefix_leads width_of c new text text [] (record { same = leads.same; widths = leads.widths; drawn = leads.drawn }) (plain_parts text p) tt in
       record { same = parts.same; widths = parts.widths; drawn = parts.drawn }

@@ -47,10 +47,10 @@ constant {A} {B} x (y ∷ xs) = ap (λ (l : List B). x ∷ l) (constant x xs)
 
 -- ---- a list around one of its elements
 
-set_front : {A : Type 0} (xs : List A) (i : ℕ) (x : A) → i < length xs → take (i + 1) (set xs i x) ≡ take i xs ++ x ∷ []
-set_front [] i x h = absurd (omega arith)
-set_front (y ∷ ys) zero x h = refl
-set_front {A} (y ∷ ys) (suc i) x h = let e : suc i + 1 ≡ suc (i + 1) = omega arith in ap (λ n. take n (y ∷ set ys i x)) e ∙ ap (λ (l : List A). y ∷ l) (set_front ys i x (omega arith))
+set_prefix : {A : Type 0} (xs : List A) (i : ℕ) (x : A) → i < length xs → take (i + 1) (set xs i x) ≡ take i xs ++ x ∷ []
+set_prefix [] i x h = absurd (omega arith)
+set_prefix (y ∷ ys) zero x h = refl
+set_prefix {A} (y ∷ ys) (suc i) x h = let e : suc i + 1 ≡ suc (i + 1) = omega arith in ap (λ n. take n (y ∷ set ys i x)) e ∙ ap (λ (l : List A). y ∷ l) (set_prefix ys i x (omega arith))
 
 set_after : {A : Type 0} (xs : List A) (i : ℕ) (x : A) → drop (i + 1) (set xs i x) ≡ drop (i + 1) xs
 set_after [] i x = refl
@@ -104,7 +104,7 @@ module _ {A : Type 0} (f : LineContent → A) (new : A) (count : ℕ) where
   down_shown lines h =
       let n = min count (length lines) in
       let long = length-map lines f in
-      let gone = length-drop (length lines - n) lines in
+      let dropped = length-drop (length lines - n) lines in
       let same : length (drop (length lines - n) lines) ≡ min count (length (map f lines)) = omega arith in
       let kept : length lines - n ≡ length (map f lines) - count = omega arith in
       map-append f (map cleared (drop (length lines - n) lines)) (take (length lines - n) lines)
@@ -219,7 +219,7 @@ module _ {W : Type 0} (width_of : List ℕ → ℕ) where
       let new = blanks_set (line_at c.lines c.row) c.column (length (line_at c.lines c.row).columns) a in
       let all : lines ≡ take c.row c.lines ++ new ∷ map (blanked a) (drop (c.row + 1) c.lines) =
       e ∙ ap (λ xs. take (c.row + 1) xs ++ map (blanked a) (drop (c.row + 1) xs)) f
-      ∙ (λ i. set_front c.lines c.row new inside i ++ map (blanked a) (set_after c.lines c.row new i)) ∙ append_assoc (take c.row c.lines) (new ∷ []) (map (blanked a) (drop (c.row + 1) c.lines)) in
+      ∙ (λ i. set_prefix c.lines c.row new inside i ++ map (blanked a) (set_after c.lines c.row new i)) ∙ append_assoc (take c.row c.lines) (new ∷ []) (map (blanked a) (drop (c.row + 1) c.lines)) in
       let left = length-drop (c.row + 1) c.lines in
       let tall = rows_shown c in
       let count : length (drop (c.row + 1) c.lines) ≡ height (display_of c).screen - (c.row + 1) = omega arith in

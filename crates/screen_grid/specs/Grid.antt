@@ -49,7 +49,7 @@ pub record IsDrawn {W : Type 0} (grid : Grid W) : Type 0 where
   pub lawful : IsDisplay (display_of grid)
   pub rows : All IsRow grid.lines
 
--- what a call leaves that makes the display another one
+-- the grid after a call that makes its display `display`
 pub record Shows {W : Type 0} (before after : Grid W) (display : Display) : Type 0 where
   pub same : display_of after ≡ display
   pub widths : after.widths ≡ before.widths
@@ -79,7 +79,7 @@ Puts width_of before after columns =
 abbrev pub clusters_done : (List ℕ → ℕ) → Display → List (List ℕ) → Display
 clusters_done width_of display clusters = fold (stroke_done width_of) display (map Cluster clusters)
 
--- some clusters were put, and others are left, by which the display becomes what it becomes by all
+-- some clusters were put: on the grid after them `left` gives the same display as `all` on the grid before
 pub record LeadsOn {W : Type 0} (width_of : List ℕ → ℕ) (before after : Grid W) (all left : List (List ℕ)) : Type 0
   where
     pub same : clusters_done width_of (display_of after) left ≡ clusters_done width_of (display_of before) all

@@ -18,7 +18,7 @@ ghost use Rattle.screen_effects.specs.Effect.{effect, is_visible};
 ghost use Rattle.screen_effects.specs.Resize.{resized};
 ghost use Rattle.screen_effects.specs.Strokes.{CarriageReturn, Cluster, Control, LineFeed, stroke_done, text_done};
 
-use crate::positions::{column_place, place};
+use crate::positions::{resolved, resolved_column};
 use crate::ring::Ring;
 use crate::rows::{
     blank_lines, blank_rows, blank_rows_below, copy, resize, scroll, scroll_down, scroll_up,
@@ -135,7 +135,7 @@ impl<W: Widths + Drop> Grid<W> {
         self.rows.as_slice()
     }
 
-    /// Becomes so many columns wide and so many rows high. The top left stays, and plain blanks come
+    /// Becomes `width` columns wide and `height` rows high. The top left stays, and plain blanks come
     /// at the right and below; a wide cell that the edge cuts becomes a blank with its attributes. The
     /// cursor stays within the last column and row, so that no wrap is pending.
     pub fn resize(&mut self, width: usize, height: usize) -> Result<(), AllocError>
@@ -173,7 +173,7 @@ impl<W: Widths + Drop> Grid<W> {
         scroll(&mut self.rows, self.width);
     }
 
-    // A text of so many columns stands at the cursor, which goes after it.
+    // Writes a text of `width` columns at the cursor, and moves the cursor after it.
     fn write(&mut self, text: &str, width: usize) -> Result<(), AllocError>
         requires drawn { IsDrawn self.old }
         requires stands { shows_as_space text.now ≡ false }
@@ -188,7 +188,7 @@ impl<W: Widths + Drop> Grid<W> {
         Ok(())
     }
 
-    // A text of so many columns is put at the cursor, or at the start of the next row where it
+    // Puts a text of `width` columns at the cursor, or at the start of the next row where it
     // doesn't fit.
     fn put_text(&mut self, text: &str, width: usize) -> Result<(), AllocError>
         requires drawn { IsDrawn self.old }
@@ -228,7 +228,7 @@ impl<W: Widths + Drop> Grid<W> {
         Ok(())
     }
 
-    // Puts the clusters of a text one after another as far as they fit in the cursor's row; answers
+    // Puts the clusters of a text one after another as far as they fit in the cursor's row; returns
     // the text that is left.
     fn put_in_row<'a>(&mut self, text: &'a str) -> Result<&'a str, AllocError>
         requires drawn { IsDrawn self.old }
@@ -271,7 +271,7 @@ impl<W: Widths + Drop> Grid<W> {
         Ok(())
     }
 
-    // Does what a control does in a text.
+    // Applies a control of a text.
     fn control(&mut self, control: u8) -> Result<(), AllocError>
         requires { IsDrawn self.old }
         ensures { OnOk result
@@ -387,14 +387,14 @@ impl<W: Widths + Drop> Grid<W> {
         Ok(())
     }
 
-    // The cursor goes to a position.
+    // Moves the cursor to a position.
     fn move_cursor(&mut self, x: Position, y: Position)
         requires { IsDrawn self.old }
         ensures { Shows self.old self.new
             (effect (W.width_of self.old.widths) (display_of self.old) (CursorPosition x y)) }
     {
-        self.column = column_place(self.width, self.column, x);
-        self.row = place(self.rows.len(), self.row, y);
+        self.column = resolved_column(self.width, self.column, x);
+        self.row = resolved(self.rows.len(), self.row, y);
     }
 
     // The cursor's row has another size.
@@ -444,7 +444,7 @@ impl<W: Widths + Drop> Grid<W> {
         Ok(())
     }
 
-    /// Does what a change does.
+    /// Applies a change.
     #[inline(always)]
     pub fn apply(&mut self, change: &Change) -> Result<(), AllocError>
         requires { IsDrawn self.old }

@@ -1,14 +1,14 @@
 //! The positions that positions name.
 ghost use Rattle.std.specs.Prelude.{◌≡◌, ◌<◌, ◌≤◌};
-ghost use Rattle.screen_effects.specs.Positions.{column_place, place};
+ghost use Rattle.screen_effects.specs.Positions.{resolved_column, resolved};
 
 use cell_base::Position;
 
 // Of `size` positions the one named, going from the current one: at most the last.
-pub(crate) fn place(size: usize, from: usize, position: Position) -> usize
+pub(crate) fn resolved(size: usize, from: usize, position: Position) -> usize
     requires some { 0 < size }
     requires within { from ≤ size }
-    ensures { result ≡ place size from position }
+    ensures { result ≡ resolved size from position }
 {
     let last = size - 1;
     match position {
@@ -20,13 +20,13 @@ pub(crate) fn place(size: usize, from: usize, position: Position) -> usize
 }
 
 // A column; the width itself is the one where a wrap is pending.
-pub(crate) fn column_place(width: usize, from: usize, position: Position) -> usize
+pub(crate) fn resolved_column(width: usize, from: usize, position: Position) -> usize
     requires some { 0 < width }
     requires within { from ≤ width }
-    ensures { result ≡ column_place width from position }
+    ensures { result ≡ resolved_column width from position }
 {
     match position {
         Position::Absolute(at) if at == width => width,
-        _ => place(width, from, position),
+        _ => resolved(width, from, position),
     }
 }

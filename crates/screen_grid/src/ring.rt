@@ -1,4 +1,4 @@
-//! Items of which the first goes, and another follows the last, at little cost.
+//! Items of which the first is dropped, and another added after the last, at little cost.
 ghost use Rattle.std.specs.Prelude.{◌≡◌, ◌+◌, ◌-◌, ◌<◌, ◌≤◌, ◌++◌, ◌∷◌, [], length, drop, take, slice_index_or};
 ghost use Rattle.std.specs.Prelude.{slice_set, vec_len, OnErr, OnOk};
 ghost use Rattle.std.specs.List.{refill};
@@ -9,11 +9,11 @@ use std::alloc::AllocError;
 use std::marker::Model;
 use std::ops::{Index, IndexMut};
 
-/// Items of which the first goes, and another follows the last, at little cost: they stand in a vector, with spare
-/// ones around them.
+/// A ring of items: dropping the first and adding one after the last cost little, since the items are in a vector with
+/// free slots around them.
 #[derive(Drop)]
 pub(crate) struct Ring<T> {
-    // Those from `start` on, so many as `len`, are there; the others are spare.
+    // The `len` slots from `start` on hold the items; the remaining ones are free, and keep what was in them.
     items: Vec<T>,
     start: usize,
     len: usize,
@@ -32,7 +32,7 @@ impl<T> Model for Ring<T> {
     ghost invariant = { λ t. t.start + t.len ≤ t.items.len };
 }
 
-// An item comes into a position, or after all others where there is no such position yet.
+// Replaces the item at `at`, or appends the item where there is no position `at` yet.
 fn store<T: Drop>(items: &mut Vec<T>, at: usize, item: T) -> Result<(), AllocError>
     requires { at ≤ vec_len items.old }
     ensures stored { OnOk result (take (at + 1) items.new.items ≡ take at items.old.items ++ item ∷ []) }
@@ -47,8 +47,7 @@ fn store<T: Drop>(items: &mut Vec<T>, at: usize, item: T) -> Result<(), AllocErr
     Ok(())
 }
 
-// The items from `start` on, so many as `len`, come to the start: one after another changes places with what stands
-// there.
+// Brings the `len` items from `start` on to the start: swaps one after another with the item there.
 #[cold]
 #[inline(never)]
 fn bring_to_front<T>(items: &mut [T], start: usize, len: usize)
@@ -62,7 +61,7 @@ fn bring_to_front<T>(items: &mut [T], start: usize, len: usize)
     }
 }
 
-// Of the items from `start` on, so many as `len`, the first becomes the last.
+// Of the `len` items from `start` on, the first becomes the last.
 #[cold]
 #[inline(never)]
 fn rotate<T>(items: &mut [T], start: usize, len: usize)
@@ -96,7 +95,7 @@ impl<T> Ring<T> {
         self.len
     }
 
-    /// How many positions are spare.
+    /// How many slots are free.
     pub(crate) fn room(&self) -> usize {
         self.items.len() - self.len
     }
@@ -119,7 +118,7 @@ impl<T> Ring<T> {
         self.items.slice_mut(self.start..self.start + self.len)
     }
 
-    /// The first item goes, and some spare one follows the others; where there is none, the first one.
+    /// Drops the first item, and adds one after the last: a free slot's item, or the first item where none is free.
     #[inline(always)]
     pub(crate) fn turn(&mut self)
         requires { 0 < length self.old }
@@ -133,7 +132,7 @@ impl<T> Ring<T> {
         self.turn_at_end();
     }
 
-    // Turns where no position after the items is spare: where some are before them, these are after them then.
+    // `turn` where no slot after the items is free: the free slots before the items move after them first.
     fn turn_at_end(&mut self)
         requires some { 0 < length self.old }
         ensures len { length self.new ≡ length self.old }
@@ -149,7 +148,7 @@ impl<T> Ring<T> {
 }
 
 impl<T: Drop> Ring<T> {
-    /// An item follows the others, in a spare position if there is one. Where memory is refused nothing changes.
+    /// Adds an item after the last, in a free slot if there is one. Where memory is refused nothing changes.
     pub(crate) fn push(&mut self, item: T) -> Result<(), AllocError>
         ensures done { OnOk result (self.new ≡ self.old ++ item ∷ []) }
         ensures refused { OnErr result (self.new ≡ self.old) }
@@ -159,15 +158,15 @@ impl<T: Drop> Ring<T> {
         Ok(())
     }
 
-    /// One spare position more, with something in it.
-    pub(crate) fn add_room(&mut self, spare: T) -> Result<(), AllocError>
+    /// Adds a free slot, which keeps `pooled`.
+    pub(crate) fn add_room(&mut self, pooled: T) -> Result<(), AllocError>
         ensures { self.new ≡ self.old }
     {
-        self.items.push(spare)?;
+        self.items.push(pooled)?;
         Ok(())
     }
 
-    /// Only so many stay, from the start; the others go, and the spare ones after them.
+    /// Keeps the first `len` items; drops the remaining ones, and the free slots after them.
     pub(crate) fn truncate(&mut self, len: usize)
         ensures { self.new ≡ take len self.old }
     {

@@ -17,15 +17,15 @@ use cell_line::Line;
 use cell_line::row_writing::{self, reset, with_width_clustered};
 use std::alloc::{AllocError, Global};
 
-// The most lines that are spare.
+// The most pooled lines.
 const MOST_POOLED: usize = 256;
 
-// How many lines are spare beside so many rows: each time that so many lines have scrolled away the rows are moved.
+// How many lines are pooled beside `height` rows. The rows are moved once for each that many lines that scroll away.
 fn pooled_for(height: usize) -> usize {
     height.min(MOST_POOLED / 2) * 2
 }
 
-// As many spare lines as belong beside the rows, where there are fewer.
+// Adds pooled lines up to the number that belongs beside the rows.
 fn add_room(alloc: Global, rows: &mut Ring<Line>) -> Result<(), AllocError>
     ensures { OnOk result (rows.new ≡ rows.old) }
 {
@@ -36,7 +36,7 @@ fn add_room(alloc: Global, rows: &mut Ring<Line>) -> Result<(), AllocError>
     Ok(())
 }
 
-// No line yet, with memory for so many rows and the spare ones.
+// No line yet, with memory for `height` rows and the pooled lines.
 fn with_room(alloc: Global, height: usize) -> Result<Vec<Line>, AllocError>
     ensures { IfOk result (λ lines. lines.items ≡ []) }
 {
@@ -83,20 +83,20 @@ fn clear_line(line: &mut Line) -> Result<(), AllocError>
     Ok(())
 }
 
-// The first line goes, and one of plain blanks, so wide, comes below.
+// Drops the first line, and adds one of `width` plain blanks below.
 #[inline(always)]
 pub(crate) fn scroll(rows: &mut Ring<Line>, width: usize)
     requires { 0 < length rows.old }
     ensures { rows.new ≡ drop 1 rows.old ++ clustered_line_of 0 (plain_row width) ∷ [] }
 {
-    // the line that goes becomes a spare one, and would keep its links
+    // the dropped line is pooled, and would keep its links
     reset(&mut rows[0], width);
     rows.turn();
     let last = rows.len() - 1;
     reset(&mut rows[last], width);
 }
 
-// Sets the clusters of a text from a column of a row on, as far as they fit; answers the column
+// Sets the clusters of a text from a column of a row on, as far as they fit; returns the column
 // after them and the text that is left.
 pub(crate) fn set_text<'a, W: Widths>(
     rows: &mut Ring<Line>,
@@ -234,7 +234,7 @@ fn clear_rows(rows: &mut Ring<Line>, from: usize, after: usize) -> Result<(), Al
     Ok(())
 }
 
-// What stands in a region moves up, and what leaves it comes again below.
+// Moves the items of a region up by `count`; the items that leave it come again below.
 fn rotate_up<T>(items: &mut [T], first: usize, after: usize, count: usize)
     requires order { first ≤ after }
     requires within { after ≤ length items.old }
@@ -247,7 +247,7 @@ fn rotate_up<T>(items: &mut [T], first: usize, after: usize, count: usize)
     items[first..after].rotate_left(count);
 }
 
-// What stands in a region moves down, and what leaves it comes again above.
+// Moves the items of a region down by `count`; the items that leave it come again above.
 fn rotate_down<T>(items: &mut [T], first: usize, after: usize, count: usize)
     requires order { first ≤ after }
     requires within { after ≤ length items.old }
@@ -331,7 +331,7 @@ fn resize_rows(rows: &mut Ring<Line>, width: usize) -> Result<(), AllocError>
     Ok(())
 }
 
-// Rows of plain blanks come below, up to so many rows.
+// Adds rows of plain blanks below, up to `height` rows.
 fn add_rows(
     alloc: Global,
     rows: &mut Ring<Line>,
@@ -348,7 +348,7 @@ fn add_rows(
     Ok(())
 }
 
-// So many rows, each so wide.
+// Makes the rows `height`, each of `width` columns.
 pub(crate) fn resize(
     alloc: Global,
     rows: &mut Ring<Line>,

@@ -11,11 +11,11 @@ use Rattle.screen_change.specs.declared.change.Change.{Change}
 use Rattle.screen_log.specs.Log.{Log, due, first_number, forgotten, resized_log}
 
 -- what is before a position, and what follows it, where the prefix has two parts
-take_front : (a b c d : List Change) (n : ℕ) → length (a ++ b) ≡ n → take n (a ++ ((b ++ c) ++ d)) ≡ a ++ b
-take_front a b c d n e = ap (λ (rest : List Change). take n (a ++ rest)) (append_assoc b c d) ∙ ap (take n) (sym (append_assoc a b (c ++ d))) ∙ take_at (a ++ b) (c ++ d) n e
+take_prefix : (a b c d : List Change) (n : ℕ) → length (a ++ b) ≡ n → take n (a ++ ((b ++ c) ++ d)) ≡ a ++ b
+take_prefix a b c d n e = ap (λ (rest : List Change). take n (a ++ rest)) (append_assoc b c d) ∙ ap (take n) (sym (append_assoc a b (c ++ d))) ∙ take_at (a ++ b) (c ++ d) n e
 
-drop_front : (a b c d : List Change) (n : ℕ) → length (a ++ b) ≡ n → drop n (a ++ ((b ++ c) ++ d)) ≡ c ++ d
-drop_front a b c d n e = ap (λ (rest : List Change). drop n (a ++ rest)) (append_assoc b c d) ∙ ap (drop n) (sym (append_assoc a b (c ++ d))) ∙ drop_at (a ++ b) (c ++ d) n e
+drop_prefix : (a b c d : List Change) (n : ℕ) → length (a ++ b) ≡ n → drop n (a ++ ((b ++ c) ++ d)) ≡ c ++ d
+drop_prefix a b c d n e = ap (λ (rest : List Change). drop n (a ++ rest)) (append_assoc b c d) ∙ ap (drop n) (sym (append_assoc a b (c ++ d))) ∙ drop_at (a ++ b) (c ++ d) n e
 
 -- a block of changes after the first ones changes place with as many others: what is done before, and then what is left after, are the whole
 pub swapped_block : (n at : ℕ) (prefix after done left : List Change) → at + n ≤ length prefix → length prefix ≡ length after
@@ -26,23 +26,23 @@ swapped_block n at prefix after done left h e d l =
     let fronts = mid_of at (length prefix - at) prefix in
     let remaining = mid_of at (length after - at) after in
     let all_fronts : fronts ≡ drop at prefix = between_to_end prefix at (length prefix) (omega arith) in
-    let all_others : remaining ≡ drop at after = between_to_end after at (length after) (omega arith) in
+    let all_rest : remaining ≡ drop at after = between_to_end after at (length after) (omega arith) in
     let first = length-take-le at prefix (omega arith) in
     let second = length-take-le at after (omega arith) in
     let fronts_len = ap length all_fronts ∙ length-drop at prefix in
-    let others_len = ap length all_others ∙ length-drop at after in
+    let rest_len = ap length all_rest ∙ length-drop at after in
     let block = length-take-le n remaining (omega arith) in
     let other_block = length-take-le n fronts (omega arith) in
     let joined = length-append (take at prefix) (take n remaining) in
     let other_joined = length-append (take at after) (take n fronts) in
     let none : post_of at (length after - at) after ≡ [] = drop_all (length after - at) (drop at after) (let k = length-drop at after in omega arith) in
     (λ i. take (at + n) (put_mid at (length prefix - at) prefix (d i)) ++ drop (at + n) (put_mid at (length after - at) after (l i)))
-    ∙ (λ i. take_front (take at prefix) (take n remaining) (drop n fronts) (post_of at (length prefix - at) prefix) (at + n) (omega arith) i
-    ++ drop_front (take at after) (take n fronts) (drop n remaining) (post_of at (length after - at) after) (at + n) (omega arith) i)
+    ∙ (λ i. take_prefix (take at prefix) (take n remaining) (drop n fronts) (post_of at (length prefix - at) prefix) (at + n) (omega arith) i
+    ++ drop_prefix (take at after) (take n fronts) (drop n remaining) (post_of at (length after - at) after) (at + n) (omega arith) i)
     ∙ ap (λ (rest : List Change). (take at prefix ++ take n remaining) ++ (drop n remaining ++ rest)) none
     ∙ ap (λ (rest : List Change). (take at prefix ++ take n remaining) ++ rest) (append-nil (drop n remaining))
     ∙ append_assoc (take at prefix) (take n remaining) (drop n remaining)
-    ∙ ap (λ (rest : List Change). take at prefix ++ rest) (take-append-drop n remaining ∙ all_others)
+    ∙ ap (λ (rest : List Change). take at prefix ++ rest) (take-append-drop n remaining ∙ all_rest)
 
 module _ (items : List Change) (start most : ℕ) (s : start ≤ length items) where
   abbrev pub values : List ChangeValue
@@ -76,8 +76,8 @@ module _ (items : List Change) (start most : ℕ) (s : start ≤ length items) w
       empty [] k = refl
       empty (x ∷ xs) k = absurd (omega arith)
 
-  pub all_gone : values ≡ [] → start ≡ length items
-  all_gone e = let n = count in let z = ap length e in omega arith
+  pub all_dropped : values ≡ [] → start ≡ length items
+  all_dropped e = let n = count in let z = ap length e in omega arith
 
 pub forgotten_here : (log : Log) (number : ℕ) → number ≤ log.number → forgotten number log ≡ record log { entries = drop (number - first_number log) log.entries }
 forgotten_here log number h =

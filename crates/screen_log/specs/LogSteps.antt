@@ -1,9 +1,10 @@
--- What happens to a log, where all entries are kept and where the last ones alone are.
+-- The steps of a log, where all entries are kept and where only the last ones are.
 use Rattle.std.specs.Prelude.{ℕ, ◌<◌, ⊤, List, [], ◌∷◌, codes, fold}
 use Rattle.screen_log.specs.Log.{Log, new_log, logged, kept, forgotten, resized_log}
 use Rattle.screen_change.specs.ChangeValue.{ChangeValue, Text}
 
--- a change is logged, what lies before a number is forgotten, or the size changes, and with it how many are due at most
+-- a change is logged, the entries before a number are forgotten, or the size changes, and with it how many are due at
+-- most
 pub data LogStep : Type 0 where
   Logged : ChangeValue → LogStep
   Forgotten : ℕ → LogStep

@@ -7,20 +7,20 @@ use Rattle.screen_change.specs.declared.change.Change.TheVariants.{CursorShape}
 use Rattle.screen_log.specs.LogSteps.{Sized}
 use Rattle.screen_log.specs.declared.change_log.ChangeLog.TheInside.{Inside}
 
--- the change that stands in the place of a dropped one: it holds no memory
+-- the change that replaces a dropped one: it holds no memory
 abbrev pub nothing : Change
 nothing = CursorShape Default
 
--- the changes after the places of those that were dropped
+-- the changes after the slots of the dropped ones
 abbrev pub log_of : Inside → Sized
 log_of a =
     record { most = a.most; log = record { number = a.number; entries = map value_of (drop a.start a.changes.items) } }
 
--- At most as many changes are kept as may be due, each of them has a number, and at most as many positions stand before
--- them. What isn't kept holds no memory, but for 64 KB of texts' memory at most, for texts to come.
+-- At most as many changes are kept as may be due, each of them has a number, and at most as many slots are before them.
+-- Dropped changes hold no memory, except at most 64 KB of texts' memory, for later texts.
 pub record IsBounded (a : Inside) : Type 0 where
-  pub gone : a.start + a.start ≤ length a.changes.items
+  pub few_dropped : a.start + a.start ≤ length a.changes.items
   pub kept : length a.changes.items ≤ a.start + a.most
   pub numbered : length a.changes.items ≤ a.start + a.number
   pub dropped : take a.start a.changes.items ≡ replicate a.start nothing
-  pub spare : a.spare ≤ 65536
+  pub pool : a.pool ≤ 65536

@@ -15,18 +15,18 @@ use std::alloc::{AllocError, Global};
 use std::marker::Model;
 use std::mem;
 
-/// Numbered changes, of which the last ones that may be due are kept. At most twice as many have a place, and a change
-/// that isn't kept any more is dropped at once: beside the changes that are kept a log has at most 64 KB of texts'
-/// memory, for texts to come. The place of that memory is reserved where a text is logged, so that what drops changes
-/// asks for none.
+/// Numbered changes, of which the last ones that may be due are kept. At most twice as many have a slot, and a change
+/// that isn't kept any more is dropped at once: beside the kept changes a log has at most 64 KB of texts' memory, for
+/// later texts. The log reserves slots for that memory where it logs a text, so that dropping changes asks for no
+/// memory.
 #[derive(Drop)]
 pub struct ChangeLog {
-    // Those from `start` on are kept. Before it stand changes that hold nothing.
+    // The changes from `start` on are kept. The ones before it hold no memory.
     changes: Vec<Change>,
     start: usize,
     most: usize,
     number: SequenceNo,
-    spare: TextPool,
+    pool: TextPool,
 }
 
 impl Model for ChangeLog {
@@ -41,10 +41,10 @@ impl Model for ChangeLog {
     ghost invariant = { IsBounded };
 }
 
-// How many changes change places at once.
+// How many changes are swapped at once.
 const BLOCK: usize = 64;
 
-// The first changes of both, a block of each, change places.
+// Swaps the first changes of both, a block of each.
 fn swap_blocks(prefix: &mut [Change], after: &mut [Change])
     requires prefix { BLOCK ≤ length prefix.old }
     requires after { BLOCK ≤ length after.old }
@@ -58,7 +58,7 @@ fn swap_blocks(prefix: &mut [Change], after: &mut [Change])
     }
 }
 
-// The changes of two lists of one length change places.
+// Swaps the changes of two lists of equal length.
 fn swap_changes(prefix: &mut [Change], after: &mut [Change])
     requires { length prefix.old ≡ length after.old }
     ensures len { length prefix.new ≡ length prefix.old }
@@ -72,7 +72,7 @@ fn swap_changes(prefix: &mut [Change], after: &mut [Change])
     prefix[at..].swap_with_slice(&mut after[at..]);
 }
 
-// The changes from `start` on change places with the first ones.
+// Swaps the changes from `start` on with the first ones.
 #[cold]
 #[inline(never)]
 fn bring_to_front(changes: &mut [Change], start: usize)
@@ -86,7 +86,7 @@ fn bring_to_front(changes: &mut [Change], start: usize)
     swap_changes(&mut prefix[..count], after);
 }
 
-// What stands in the place of a dropped change: it holds nothing.
+// The change that replaces a dropped one: it holds no memory.
 #[inline(always)]
 fn nothing() -> Change
     ensures { result ≡ nothing }
@@ -94,61 +94,61 @@ fn nothing() -> Change
     Change::CursorShape(CursorShape::Default)
 }
 
-// Makes room to keep the memory of a text that is logged, and of those among the changes that are kept: where they are
-// dropped none is asked for.
+// Makes room to keep the memory of a text that is logged, and of the texts among the kept changes: dropping them then
+// asks for no memory.
 #[inline(always)]
-fn reserve_for(spare: &mut TextPool, change: &Change, kept: usize) -> Result<(), AllocError>
-    ensures { spare.new ≡ spare.old }
+fn reserve_for(pool: &mut TextPool, change: &Change, kept: usize) -> Result<(), AllocError>
+    ensures { pool.new ≡ pool.old }
 {
     if let Change::Text(_) = change {
-        spare.reserve(kept.saturating_add(1))?;
+        pool.reserve(kept.saturating_add(1))?;
     }
     Ok(())
 }
 
 // Drops a change, and keeps the memory of a text.
 #[inline(always)]
-fn drop_change(change: Change, spare: &mut TextPool)
-    requires { spare.old ≤ MOST_POOLED }
-    ensures { spare.new ≤ MOST_POOLED }
+fn drop_change(change: Change, pool: &mut TextPool)
+    requires { pool.old ≤ MOST_POOLED }
+    ensures { pool.new ≤ MOST_POOLED }
 {
     if let Change::Text(text) = change {
-        spare.put(text);
+        pool.put(text);
     }
 }
 
-// Drops the changes from one position to another where they stand.
+// Drops the changes of `from..to` in place.
 #[inline(always)]
-fn drop_in_place(changes: &mut [Change], from: usize, to: usize, spare: &mut TextPool)
+fn drop_in_place(changes: &mut [Change], from: usize, to: usize, pool: &mut TextPool)
     requires order { from ≤ to }
     requires within { to ≤ length changes.old }
     requires dropped { take from changes.old ≡ replicate from nothing }
-    requires spare { spare.old ≤ MOST_POOLED }
+    requires pool { pool.old ≤ MOST_POOLED }
     ensures len { length changes.new ≡ length changes.old }
     ensures dropped { take to changes.new ≡ replicate to nothing }
     ensures rest { drop to changes.new ≡ drop to changes.old }
-    ensures spare { spare.new ≤ MOST_POOLED }
+    ensures pool { pool.new ≤ MOST_POOLED }
 {
     for at in from..to {
-        drop_change(mem::replace(&mut changes[at], nothing()), spare);
+        drop_change(mem::replace(&mut changes[at], nothing()), pool);
     }
 }
 
-// Drops the changes before a place, of which those before `start` are dropped, where they stand. Where no more are left
-// after it these are brought to the start: so each change that is dropped moves at most one other.
+// Drops the changes before `position` in place; the ones before `start` are dropped already. Where at most `position`
+// changes are left, these move to the start: so each change that is dropped moves at most one other.
 #[inline(always)]
-fn drop_before(changes: &mut Vec<Change>, start: &mut usize, position: usize, spare: &mut TextPool)
+fn drop_before(changes: &mut Vec<Change>, start: &mut usize, position: usize, pool: &mut TextPool)
     requires order { start.old ≤ position }
     requires within { position ≤ vec_len changes.old }
     requires dropped { take start.old changes.old.items ≡ replicate start.old nothing }
-    requires spare { spare.old ≤ MOST_POOLED }
+    requires pool { pool.old ≤ MOST_POOLED }
     ensures left { drop start.new changes.new.items ≡ drop position changes.old.items }
     ensures len { vec_len changes.new + position ≡ start.new + vec_len changes.old }
     ensures few { start.new + start.new ≤ vec_len changes.new }
     ensures dropped { take start.new changes.new.items ≡ replicate start.new nothing }
-    ensures spare { spare.new ≤ MOST_POOLED }
+    ensures pool { pool.new ≤ MOST_POOLED }
 {
-    drop_in_place(changes, *start, position, spare);
+    drop_in_place(changes, *start, position, pool);
     let left = changes.len() - position;
     if position < left {
         *start = position;
@@ -160,7 +160,7 @@ fn drop_before(changes: &mut Vec<Change>, start: &mut usize, position: usize, sp
 }
 
 impl ChangeLog {
-    /// A log of no change, of which at most so many may be due.
+    /// A log of no change, of which at most `most` may be due.
     pub fn new(alloc: Global, most: usize) -> ChangeLog
         ensures most { result.most ≡ most }
         ensures log { result.log ≡ new_log }
@@ -170,7 +170,7 @@ impl ChangeLog {
             start: 0,
             most,
             number: 0,
-            spare: TextPool::new(alloc),
+            pool: TextPool::new(alloc),
         }
     }
 
@@ -197,22 +197,22 @@ impl ChangeLog {
         ensures refused { OnErr result (self.new ≡ self.old) }
     {
         self.changes.reserve(1)?;
-        reserve_for(&mut self.spare, &change, self.changes.len() - self.start)?;
+        reserve_for(&mut self.pool, &change, self.changes.len() - self.start)?;
         self.changes.push_reserved(change);
         self.number += 1;
         if self.most < self.changes.len() - self.start {
             let second = self.start + 1;
-            drop_before(&mut self.changes, &mut self.start, second, &mut self.spare);
+            drop_before(&mut self.changes, &mut self.start, second, &mut self.pool);
         }
         Ok(())
     }
 
     /// An empty text, with the memory of one that was logged and dropped, where there is some.
-    pub fn spare_text(&mut self) -> String
+    pub fn pooled_text(&mut self) -> String
         ensures empty { string_bytes result ≡ [] }
         ensures same { self.new ≡ self.old }
     {
-        self.spare.take(*self.changes.allocator())
+        self.pool.take(*self.changes.allocator())
     }
 
     /// Forgets the changes before a number; none where it lies above the current one.
@@ -222,7 +222,7 @@ impl ChangeLog {
         if number <= self.number {
             let before = self.number - (self.changes.len() - self.start);
             let first = self.start + number.saturating_sub(before);
-            drop_before(&mut self.changes, &mut self.start, first, &mut self.spare);
+            drop_before(&mut self.changes, &mut self.start, first, &mut self.pool);
         }
     }
 
@@ -253,14 +253,14 @@ impl ChangeLog {
         ensures { IfOk result (λ log. log ≡ self.now) }
     {
         let changes = cloned_changes(alloc, &self.changes[self.start..])?;
-        let mut spare = TextPool::new(alloc);
-        spare.reserve(changes.len())?;
+        let mut pool = TextPool::new(alloc);
+        pool.reserve(changes.len())?;
         Ok(ChangeLog {
             changes,
             start: 0,
             most: self.most,
             number: self.number,
-            spare,
+            pool,
         })
     }
 

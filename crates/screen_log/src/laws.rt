@@ -25,9 +25,9 @@ pub fn kept_changes_are_counted(log: &ChangeLog)
     log.is_counted();
 }
 
-/// After one more change what is due from a number on is what was due before it, and the change; or
-/// nothing, so that a repaint is, where nothing was due, or where more would be than may be. To
-/// somebody who has seen the change none is due. Each change that the log keeps is taken to have a
+/// After one more change, the changes due from a number on are the ones due before it, and the change;
+/// or a repaint is due instead, where it was before, or where more changes would be due than may be. To
+/// a viewer who has seen the change none is due. Each change that the log keeps is taken to have a
 /// number, as in all logs.
 pub fn another_change_is_due_after_the_others()
     ensures due { (log : Sized) (change : ChangeValue) (number : ℕ) → length log.log.entries ≤ log.log.number

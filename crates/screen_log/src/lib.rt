@@ -1,5 +1,5 @@
-//! Logs of numbered changes: the definitions, a log of bounded length, and the law that it answers as
-//! one that keeps all.
+//! Logs of numbered changes: the definitions, a log of bounded length, and the law that the same changes
+//! are due as from one that keeps all.
 #![tactic(auto)]
 
 mod change_log;

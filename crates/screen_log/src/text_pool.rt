@@ -1,4 +1,4 @@
-//! The memory of dropped texts, kept for those to come.
+//! The memory of dropped texts, kept for later ones.
 ghost use Rattle.std.specs.Prelude.{◌≡◌, ◌≤◌, []};
 ghost use Rattle.std.specs.String.{string_bytes};
 
@@ -42,7 +42,7 @@ impl TextPool {
         }
     }
 
-    /// Makes room to keep the memory of so many texts more, as far as it would be kept.
+    /// Makes room to keep the memory of `count` more texts, as far as it would be kept.
     #[inline(always)]
     pub(crate) fn reserve(&mut self, count: usize) -> Result<(), AllocError>
         ensures { self.new ≡ self.old }

@@ -30,9 +30,9 @@ pub element_set : {A : Type 0} (done : List A) (x y : A) (left : List A) → sli
 element_set [] x y left = refl
 element_set {A} (z ∷ done) x y left = ap (λ (l : List A). z ∷ l) (element_set done x y left)
 
-pub front_of : {A : Type 0} (done left : List A) → take (length done) (done ++ left) ≡ done
-front_of [] left = refl
-front_of {A} (z ∷ done) left = ap (λ (l : List A). z ∷ l) (front_of done left)
+pub prefix_of : {A : Type 0} (done left : List A) → take (length done) (done ++ left) ≡ done
+prefix_of [] left = refl
+prefix_of {A} (z ∷ done) left = ap (λ (l : List A). z ∷ l) (prefix_of done left)
 
 pub dropped_all : {A : Type 0} (n : ℕ) (xs : List A) → length xs ≤ n → drop n xs ≡ []
 dropped_all zero [] h = refl
@@ -107,13 +107,13 @@ module _ (width_of : List ℕ → ℕ) (narrow : width_of space ≡ 1) where
       not_not true e = refl
       not_not false e = absurd (false≢true (sym e))
 
-  pub front_kept : (color : ColorAttribute) (cells : List CellContent) → AreSound width_of cells → Fronts color cells (up_to_last (λ cell. not (is_blank_of color cell)) cells)
-  front_kept color [] p = record { blanks = 0; same = refl; sound = tt }
-  front_kept color (cell ∷ cells) p =
+  pub prefix_kept : (color : ColorAttribute) (cells : List CellContent) → AreSound width_of cells → Fronts color cells (up_to_last (λ cell. not (is_blank_of color cell)) cells)
+  prefix_kept color [] p = record { blanks = 0; same = refl; sound = tt }
+  prefix_kept color (cell ∷ cells) p =
       let passes : CellContent → Bool = λ c. not (is_blank_of color c) in
       by_test (passes cell || list_any passes cells)
       (λ e. subst (λ b. Fronts color (cell ∷ cells) (if b then cell ∷ up_to_last passes cells else [])) (sym e)
-      (longer cell cells (up_to_last passes cells) p.0 (front_kept color cells p.1)))
+      (longer cell cells (up_to_last passes cells) p.0 (prefix_kept color cells p.1)))
       (λ e. subst (λ b. Fronts color (cell ∷ cells) (if b then cell ∷ up_to_last passes cells else [])) (sym e)
       (record { blanks = length (cell ∷ cells); same = all_blanks color (cell ∷ cells) p (not_any color (cell ∷ cells) e); sound = tt }))
     where
@@ -163,7 +163,7 @@ cleared_is columns m a color w =
     let rest : length row - length columns ≡ m = omega (arith, count) in
     let new : length (blank_row m color) ≡ m = length-of m (blank (blank_of color)) in
     ap (λ n. set_columns row (length columns) (blank_row n color)) rest
-    ∙ ap (λ (r : Row). closed_end r ++ blank_row m color ++ closed_start (drop (length columns + length (blank_row m color)) row)) (front_of columns (replicate m (blank a)))
+    ∙ ap (λ (r : Row). closed_end r ++ blank_row m color ++ closed_start (drop (length columns + length (blank_row m color)) row)) (prefix_of columns (replicate m (blank a)))
     ∙ ap (λ (r : Row). closed_end columns ++ blank_row m color ++ closed_start r) (dropped_all (length columns + length (blank_row m color)) row (omega (arith, count, new)))
     ∙ append-nil (closed_end columns ++ blank_row m color)
     ∙ ap (λ (r : Row). r ++ blank_row m color) (whole_ends columns w)

@@ -8,7 +8,7 @@ use Rattle.cell_base.specs.Attributes.{Attributes, blank_of}
 use Rattle.cell_base.specs.CellContent.{CellContent}
 use Rattle.screen_change.specs.ChangeValue.{ChangeValue, Text, AllAttributes, ClearToEndOfLine, ClearToEndOfScreen}
 use Rattle.screen_change.specs.CellChanges.{attributes_due, runs_written, cells_written, last_pen, clear_due}
-use Rattle.screen_change.specs.Texts.{texts, stay_apart}
+use Rattle.screen_change.specs.Texts.{texts, stay_independent}
 use Rattle.screen_change.specs.Written.{Written, finished, with_change, with_cell, with_cells}
 use Rattle.screen_change.proofs.TextLemmas.{by_test, no_texts, one_text, each_text}
 use Rattle.screen_change.proofs.RunLemmas.{cells_are_written, pen_is_after}
@@ -145,7 +145,7 @@ or_true false = refl
 
 some_texts : (t : List ℕ) (ts : List (List ℕ)) → are_some (map Text (texts (t ∷ ts))) ≡ true
 some_texts t ts =
-    by_test (stay_apart (t ∷ ts))
+    by_test (stay_independent (t ∷ ts))
     (λ e. ap (λ (xs : List (List ℕ)). are_some (map Text xs)) (one_text t ts e))
     (λ e. ap (λ (xs : List (List ℕ)). are_some (map Text xs)) (each_text t ts e))
 
@@ -165,8 +165,8 @@ some_cells : (pen : Attributes) (cells : List CellContent) → 0 < length cells 
 some_cells pen [] n = absurd (omega (arith, n))
 some_cells pen (cell ∷ cells) n = some_before pen cell (cell_runs cells)
 
-pub painted_front : (pen : Attributes) (cells : List CellContent) (below_too : Bool) → 0 < (end_of cells).kept → are_some (row_painted pen cells below_too) ≡ true
-painted_front pen cells below_too n =
+pub painted_prefix : (pen : Attributes) (cells : List CellContent) (below_too : Bool) → 0 < (end_of cells).kept → are_some (row_painted pen cells below_too) ≡ true
+painted_prefix pen cells below_too n =
     let h = ends cells in
     let count = length-take-le (end_of cells).kept cells (let w = h.within in let k = h.count in omega arith) in
     let some : 0 < length (less_blanks (background_at_end cells) cells) = subst (λ (cs : List CellContent). 0 < length cs) (kept_cells cells) (omega (arith, count)) in

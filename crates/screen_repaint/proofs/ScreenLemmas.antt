@@ -43,8 +43,8 @@ title_pen true title pen = refl
 title_pen false [] pen = refl
 title_pen false (byte ∷ title) pen = refl
 
-place_pen : (painted : Bool) (column row : ℕ) (pen : Attributes) → pen_left pen (cursor_placed painted column row) ≡ pen
-place_pen painted column row pen =
+position_pen : (painted : Bool) (column row : ℕ) (pen : Attributes) → pen_left pen (cursor_placed painted column row) ≡ pen
+position_pen painted column row pen =
     by_test (not painted && (column == 0 && row == 0))
     (λ e. ap (λ b. pen_left pen (if b then [] else CursorPosition (Absolute column) (Absolute row) ∷ [])) e)
     (λ e. ap (λ b. pen_left pen (if b then [] else CursorPosition (Absolute column) (Absolute row) ∷ [])) e)
@@ -76,7 +76,7 @@ module _ (d : Display) (also_empty : Bool) (w w1 w2 w3 w4 w5 w6 : Written) (pain
       let any : painted ≡ are_some rows = some ∙ ap (λ pen. are_some (rows_painted pen d.screen.rows)) pen2 in
       let fourth : w4 ≡ with_changes (clear ++ title ++ rows ++ position (are_some rows)) (begun plain) =
       e4 ∙ (λ i. with_changes (position (any i)) (third i)) ∙ more (clear ++ title ++ rows) (position (are_some rows)) (begun plain) in
-      let pen4 : w4.pen ≡ pen_left plain rows = ap (λ (v : Written). v.pen) e4 ∙ place_pen painted d.screen.column d.screen.row w3.pen ∙ pen3 in
+      let pen4 : w4.pen ≡ pen_left plain rows = ap (λ (v : Written). v.pen) e4 ∙ position_pen painted d.screen.column d.screen.row w3.pen ∙ pen3 in
       let fifth : w5 ≡ with_changes (clear ++ title ++ rows ++ position (are_some rows) ++ attributes_due (pen_left plain rows) d.screen.pen) (begun plain) =
       e5 ∙ (λ i. with_changes (attributes_due (pen4 i) d.screen.pen) (fourth i)) ∙ more (clear ++ title ++ rows ++ position (are_some rows)) (attributes_due (pen_left plain rows) d.screen.pen) (begun plain) in
       let all : w6 ≡ with_changes (repaint_with title d) (begun plain) =

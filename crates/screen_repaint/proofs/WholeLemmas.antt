@@ -17,7 +17,7 @@ use Rattle.screen_change.proofs.TextLemmas.{by_test}
 use Rattle.cell_base.specs.WholeRow.{IsWhole}
 use Rattle.screen_effects.specs.Display.{Display, IsDisplay}
 use Rattle.screen_effects.specs.Effect.{on_screen, effect, replay}
-use Rattle.screen_effects.specs.Positions.{place, column_place}
+use Rattle.screen_effects.specs.Positions.{resolved, resolved_column}
 use Rattle.screen_effects.proofs.EffectLaws.{replay_is}
 use Rattle.screen_effects.specs.WrittenCells.{IsSoundDisplay, IsSoundRow}
 use Rattle.screen_effects.proofs.WrittenLemmas.{due_replayed}
@@ -25,7 +25,7 @@ use Rattle.screen_repaint.specs.Repaint.{are_some, pen_left, rows_painted, curso
 use Rattle.screen_repaint.specs.Shown.{AreTitles, IsTitle, shape_or, shown_on, title_after, title_left, title_or}
 use Rattle.screen_repaint.proofs.CellLemmas.{AreGood, mapped_copies}
 use Rattle.screen_repaint.proofs.PaintLemmas.{no_changes}
-use Rattle.screen_repaint.proofs.ShownLemmas.{Painted, at_place, starts, rows_shown}
+use Rattle.screen_repaint.proofs.ShownLemmas.{Painted, at_position, starts, rows_shown}
 
 abbrev with_title : List ℕ → Screen → Screen
 with_title title screen = record screen { title = title }
@@ -64,7 +64,7 @@ module _ (width_of : List ℕ → ℕ) where
   cursor_is_shown d false (Some shape) e = ap (λ b. on_screen (λ s. record s { visible = b }) d) e
 
   module _ (narrow : width_of space ≡ 1) (b : Display) where
-    column_is : (from column : ℕ) → column ≤ b.screen.width → column_place b.screen.width from (Absolute column) ≡ column
+    column_is : (from column : ℕ) → column ≤ b.screen.width → resolved_column b.screen.width from (Absolute column) ≡ column
     column_is from column h =
         by_test (column == b.screen.width)
         (λ e. ap (λ x. if x then b.screen.width else min column (b.screen.width - 1)) e ∙ grind (arith, nat_tests))
@@ -74,7 +74,7 @@ module _ (width_of : List ℕ → ℕ) where
         by_less n = omega (arith, n)
 
     abbrev on_base : List Row → ℕ → ℕ → Attributes → Display
-    on_base = at_place width_of narrow b
+    on_base = at_position width_of narrow b
 
     placed : (changes : List ChangeValue) (n : ℕ) (rows : List Row) (pen : Attributes) (column row : ℕ) → column ≤ b.screen.width → row < length rows
         → (p : Painted width_of narrow b rows pen (replay width_of (starts width_of narrow b [] n plain) changes))
@@ -93,7 +93,7 @@ module _ (width_of : List ℕ → ℕ) where
         ap (λ t. replay width_of (on_base rows p.column p.row pen) (if t then [] else CursorPosition (Absolute column) (Absolute row) ∷ [])) e
         ∙ (λ i. on_base rows ((x ∙ x_is) i) ((y ∙ y_is) i) pen))
         (λ e.
-        let y_is : place (length rows) p.row (Absolute row) ≡ row = omega (arith, r) in
+        let y_is : resolved (length rows) p.row (Absolute row) ≡ row = omega (arith, r) in
         ap (λ t. replay width_of (on_base rows p.column p.row pen) (if t then [] else CursorPosition (Absolute column) (Absolute row) ∷ [])) e
         ∙ (λ i. on_base rows (column_is p.column column c i) (y_is i) pen))
       where
@@ -128,22 +128,22 @@ repaint_is_shown width_of other display titles narrow h sound g wide high t =
     let start : Display = starts width_of narrow base [] (length rows) plain in
     let same_rows : base.screen.rows ≡ replicate (length rows) (plain_row base.screen.width) = mapped_copies other.screen.rows (plain_row other.screen.width) ∙ ap (λ n. replicate n (plain_row other.screen.width)) high in
     let first : replay width_of other (cleared ++ titles) ≡ start =
-    fold-append (effect width_of) other cleared titles ∙ titles_shown width_of titles (replay width_of other cleared) t ∙ ap (λ (all : List Row). at_place width_of narrow base all 0 0 plain) same_rows in
+    fold-append (effect width_of) other cleared titles ∙ titles_shown width_of titles (replay width_of other cleared) t ∙ ap (λ (all : List Row). at_position width_of narrow base all 0 0 plain) same_rows in
     let lawful : IsDisplay start = subst IsDisplay first (replay_is width_of (cleared ++ titles) other g) in
     let even : All (λ row. length row ≡ base.screen.width) rows = subst (λ n. All (λ row. length row ≡ n) rows) (sym wide) h.lawful.even in
     let p : Painted width_of narrow base rows pen (replay width_of start painted) = rows_shown width_of narrow base rows [] plain (λ n. lawful) (good width_of narrow base.screen.width rows even h.whole sound) in
     let in_columns : screen.column ≤ base.screen.width = subst (λ n. screen.column ≤ n) (sym wide) h.lawful.column_in in
-    let place : List ChangeValue = cursor_placed (are_some painted) screen.column screen.row in
+    let cursor_moves : List ChangeValue = cursor_placed (are_some painted) screen.column screen.row in
     let due : List ChangeValue = attributes_due pen screen.pen in
     let shown : List ChangeValue = cursor_shown screen.visible display.shape in
-    let there : Display = at_place width_of narrow base rows screen.column screen.row pen in
-    let drawn : Display = at_place width_of narrow base rows screen.column screen.row screen.pen in
-    fold-append (effect width_of) other (cleared ++ titles ++ painted ++ place ++ due) shown
+    let there : Display = at_position width_of narrow base rows screen.column screen.row pen in
+    let drawn : Display = at_position width_of narrow base rows screen.column screen.row screen.pen in
+    fold-append (effect width_of) other (cleared ++ titles ++ painted ++ cursor_moves ++ due) shown
     ∙ ap (λ (d : Display). replay width_of d shown)
-    (fold-append (effect width_of) other (cleared ++ titles ++ painted ++ place) due
+    (fold-append (effect width_of) other (cleared ++ titles ++ painted ++ cursor_moves) due
     ∙ ap (λ (d : Display). replay width_of d due)
-    (fold-append (effect width_of) other (cleared ++ titles ++ painted) place
-    ∙ ap (λ (d : Display). replay width_of d place) (fold-append (effect width_of) other (cleared ++ titles) painted ∙ ap (λ (d : Display). replay width_of d painted) first ∙ p.shown)
+    (fold-append (effect width_of) other (cleared ++ titles ++ painted) cursor_moves
+    ∙ ap (λ (d : Display). replay width_of d cursor_moves) (fold-append (effect width_of) other (cleared ++ titles) painted ∙ ap (λ (d : Display). replay width_of d painted) first ∙ p.shown)
     ∙ placed width_of narrow base painted (length rows) rows pen screen.column screen.row in_columns h.lawful.row_in p)
     ∙ due_replayed width_of screen.pen there)
     ∙ cursor_is_shown width_of drawn screen.visible display.shape refl

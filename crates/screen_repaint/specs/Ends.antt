@@ -10,8 +10,8 @@ use Rattle.cell_base.specs.SameAttributes.{same_attributes}
 use Rattle.screen_change.specs.CellRuns.{is_blank_of}
 use Rattle.cell_edits.specs.VisibleCells.{VisibleCell, contents}
 
--- how many cells there are, how many of them stand before the blanks of one background at the end, and the attributes
--- of these
+-- how many cells there are, how many of them come before the blanks of one background at the end, and the attributes
+-- of these blanks
 pub record End : Type 0 where
   pub cells : ℕ
   pub kept : ℕ
@@ -33,12 +33,12 @@ with_cell end cell =
     else record { cells = end.cells + 1; kept = end.cells; blanks = Some cell.attributes })
     else record { cells = end.cells + 1; kept = end.cells + 1; blanks = None }
 
--- so many cells that are no blanks
-abbrev pub with_others : ℕ → End → End
-with_others count end =
+-- adds `count` cells that are no blanks
+abbrev pub with_rest : ℕ → End → End
+with_rest count end =
     if count == 0 then end else record { cells = end.cells + count; kept = end.cells + count; blanks = None }
 
--- so many blanks with these attributes
+-- adds `count` blanks with these attributes
 abbrev pub with_blanks : ℕ → Attributes → End → End
 with_blanks count attributes end =
     if count == 0 then end else (if ends_in end.blanks attributes then record end { cells = end.cells + count }
@@ -60,8 +60,7 @@ abbrev pub are_blanks_with : Attributes → List CellContent → Bool
 are_blanks_with attributes cells =
     list_all (λ cell. bytes_eq cell.text space && same_attributes cell.attributes attributes) cells
 
--- some of the cells that are left are passed, if there are any: the end with the others after is the end with all of
--- them
+-- some of the remaining cells are passed, if there are any: the new end with the rest is the old end with all of them
 pub record PassesOn (old : End) (left : List VisibleCell) (new : End) (rest : List VisibleCell) (any : Bool) : Type 0
   where
     pub same : fold with_cell new (contents rest) ≡ fold with_cell old (contents left)
@@ -74,7 +73,7 @@ pub record PassesSpaces (attributes : Attributes) (left rest : List VisibleCell)
   pub same : (are && are_blanks_with attributes (contents rest)) ≡ are_blanks_with attributes (contents left)
   pub fewer : length rest < length left
 
--- how many elements after the last one that fails a test there are; as many as said where each passes
+-- how many elements there are after the last one that fails a test; `all` where each passes
 abbrev pub passing_at_end : {A : Type 0} → (A → Bool) → ℕ → List A → ℕ
 passing_at_end test all [] = all
 passing_at_end test all (x ∷ xs) = passing_at_end test (if test x then all else length xs) xs

@@ -34,7 +34,8 @@ abbrev pub after_moves : ℕ → List ChangeValue → List ChangeValue
 after_moves count [] = []
 after_moves count (change ∷ changes) = moves count ++ change ∷ changes
 
--- whether rows are blanks of one colour is told by how many rows at the end have blanks with some attributes alone
+-- the number of rows at the end that have nothing but blanks of some attributes decides whether rows are blanks of one
+-- colour
 abbrev pub IsTail : ℕ → Option Attributes → List Row → Type 0
 IsTail count blanks [] = ⊤
 IsTail count blanks (row ∷ rows) =
@@ -51,15 +52,15 @@ AreFilled (row ∷ rows) = (0 < length (row_cells row)) × AreFilled rows
 abbrev pub rest_of : Bool → List LineContent → List LineContent
 rest_of below_too below = if below_too then [] else below
 
--- so many of the cells that are left were written: what is written with the next ones, at most so many in all, is the
--- same; where none was, none is to be
+-- `count` of the remaining cells were written: with the next ones, at most `most` in all, the same is written; where
+-- none was written, none is to be
 pub record WritesOn (most : ℕ) (old : Written) (left : List VisibleCell) (count : ℕ) (new : Written)
     (rest : List VisibleCell) : Type 0 where
   pub same : with_cells new (take (most - count) (contents rest)) ≡ with_cells old (take most (contents left))
   pub within : count ≤ most
   pub none : count ≡ 0 → take most (contents rest) ≡ []
 
--- what is left to be painted makes of what was written the whole, and whether that is anything
+-- painting the rows `left` after `written` gives `whole`, and `some` tells whether anything is painted
 pub record LeadsOn (whole : Written) (some : Bool) (written : Written) (painted : Bool) (count : ℕ) (left : List Row) :
     Type 0 where
   pub is_ended : written.cells ≡ []

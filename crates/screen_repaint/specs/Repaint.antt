@@ -38,8 +38,8 @@ pen_left pen changes = fold pen_after pen changes
 abbrev pub row_cells : Row → List CellContent
 row_cells row = contents (visible_cells row)
 
--- whether a row has blanks of a colour and nothing else: a blank of one colour is a cell whose text is one space, and
--- whose attributes are plain but for that background
+-- whether a row has only blanks of a colour: a blank of one colour is a cell whose text is one space, and whose
+-- attributes are plain except for that background
 abbrev pub is_blank_row : ColorAttribute → Row → Bool
 is_blank_row color row = list_all (is_blank_of color) (row_cells row)
 
@@ -56,7 +56,7 @@ abbrev pub end_cleared : Option ColorAttribute → Bool → List ChangeValue
 end_cleared None below_too = []
 end_cleared (Some color) below_too = if below_too then ClearToEndOfScreen color ∷ [] else clear_due color
 
--- a row's own changes: its cells, but for the blanks of one colour at its end, and the clear for these
+-- a row's own changes: its cells, except the blanks of one colour at its end, and the clear for these
 abbrev pub row_painted : Attributes → List CellContent → Bool → List ChangeValue
 row_painted pen cells below_too =
     let background = background_at_end cells in
@@ -67,7 +67,7 @@ abbrev pub in_next_row : List ChangeValue → List ChangeValue
 in_next_row [] = []
 in_next_row (change ∷ changes) = CursorPosition (Absolute 0) (Relative (pos 1)) ∷ change ∷ changes
 
--- the rows, each in turn, on plain blanks; those that go with a row's blanks are left out
+-- the rows, each in turn, on plain blanks; rows that go with a row's blanks are left out
 abbrev pub rows_painted : Attributes → List Row → List ChangeValue
 rows_painted pen [] = []
 rows_painted pen (row ∷ below) =
@@ -105,7 +105,7 @@ abbrev pub titles : Bool → List ℕ → List ChangeValue
 titles true title = Title title ∷ []
 titles false title = title_due title
 
--- a clear with the cursor hidden, titles, the rows, the cursor's place, the pen, unless it is in force, and the cursor
+-- a clear with the cursor hidden, titles, rows, the cursor's position, the pen, unless it is in force, and the cursor
 abbrev pub repaint_with : List ChangeValue → Display → List ChangeValue
 repaint_with titles display =
     let screen = display.screen in

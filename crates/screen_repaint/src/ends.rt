@@ -11,15 +11,15 @@ ghost use Rattle.cell_views.specs.CellRefView.{cells_left, shown_by};
 ghost use Rattle.screen_repaint.specs.PaintedRows.{AreFilled, IsTail, rows_of};
 ghost use Rattle.screen_repaint.specs.Repaint.{row_cells};
 ghost use Rattle.screen_repaint.specs.Ends.{PassesOn, PassesSpaces, are_blanks_with, blanks_at_end, end_of};
-ghost use Rattle.screen_repaint.specs.Ends.{passing_at_end, with_blanks, with_others, ends_in};
+ghost use Rattle.screen_repaint.specs.Ends.{passing_at_end, with_blanks, with_rest, ends_in};
 
 use cell_base::CellAttributes;
 use cell_line::{CellRef, Line, VisibleCellIter};
 use screen_grid::blank_of;
 use std::marker::Model;
 
-/// How many cells a row has, how many of them stand before the blanks of one background at its end,
-/// and the attributes of these.
+/// How many cells a row has, how many of them come before the blanks of one background at its end,
+/// and the attributes of these blanks.
 #[derive(Drop)]
 pub(crate) struct RowEnd<'a> {
     cells: usize,
@@ -37,14 +37,14 @@ impl<'a> Model for RowEnd<'a> {
     ghost view = { end_shown };
 }
 
-// Whether the attributes are plain but for the background.
+// Whether the attributes are plain except for the background.
 fn is_plain(attrs: &CellAttributes) -> bool
     ensures { result ≡ same_attributes attrs.now (attributes_of attrs.now.background) }
 {
     *attrs == blank_of(attrs.background())
 }
 
-// Whether the cell is one space, plain but for its background.
+// Whether the cell is one space, plain except for its background.
 #[tactic(auto, unfolding(screen_change::specs::CellRuns::is_blank_of))]
 fn is_blank(cell: &CellRef<'_>) -> bool
     ensures { result ≡ is_blank_of (shown_by cell.now).cell.attributes.background (shown_by cell.now).cell }
@@ -82,7 +82,7 @@ pub(crate) fn ends_in(blanks: Option<&CellAttributes>, attrs: &CellAttributes) -
 }
 
 impl<'a> RowEnd<'a> {
-    // How many cells stand before the blanks.
+    // The number of cells before the blanks.
     pub(crate) fn kept(&self) -> usize
         ensures { result ≡ self.now.kept }
     {
@@ -96,10 +96,10 @@ impl<'a> RowEnd<'a> {
         self.blanks
     }
 
-    // So many other cells, and then so many blanks with these attributes.
+    // Adds `remaining` other cells, and then `blanks` blanks with these attributes.
     fn push(&mut self, remaining: usize, blanks: usize, attrs: &'a CellAttributes)
         requires { self.old.cells + (remaining + blanks) < 2 ^ 64 }
-        ensures { self.new ≡ with_blanks blanks attrs.now (with_others remaining self.old) }
+        ensures { self.new ≡ with_blanks blanks attrs.now (with_rest remaining self.old) }
     {
         if remaining > 0 {
             self.cells += remaining;
@@ -116,7 +116,7 @@ impl<'a> RowEnd<'a> {
         self.cells += blanks;
     }
 
-    // The next of the cells that are left: as many as are one text, or else one. Answers whether any was left.
+    // Adds the next of the remaining cells: as many as are one text, or else one. Returns whether any was left.
     fn push_next(&mut self, cells: &mut VisibleCellIter<'a>) -> bool
         requires { self.old.cells + length (cells_left cells.old) < 2 ^ 64 }
         ensures { PassesOn self.old (cells_left cells.old) self.new (cells_left cells.new) result }
@@ -166,8 +166,8 @@ fn is_spaces(text: &str) -> bool
     text.as_bytes().iter().all(|byte| *byte == b' ')
 }
 
-// Whether the next of the cells that are left, as many as are one text, or else one, are spaces with these attributes.
-// `None`: none is left.
+// Passes the next of the remaining cells, as many as are one text, or else one. Returns whether they are spaces with
+// these attributes. `None`: none is left.
 fn pass_spaces(cells: &mut VisibleCellIter<'_>, attrs: &CellAttributes) -> Option<bool>
     ensures { MatchOption result (cells_left cells.old ≡ [])
         (λ are. PassesSpaces attrs.now (cells_left cells.old) (cells_left cells.new) are) }

@@ -35,8 +35,8 @@ fn write_moves(writer: &mut CellWriter<'_>, count: usize) -> Result<(), AllocErr
     Ok(())
 }
 
-// Writes the next of the cells that are left: as many as are one text and at most so many, or else one. Answers how
-// many; 0 where none is left, or to be written.
+// Writes the next of the remaining cells: as many as are one text and at most `most`, or else one. Returns how many; 0
+// where none is left, or `most` is 0.
 fn write_next<'a>(
     writer: &mut CellWriter<'a>,
     cells: &mut VisibleCellIter<'a>,
@@ -148,8 +148,8 @@ fn is_painted(end: &RowEnd<'_>) -> bool
     }
 }
 
-// Whether so many lines at the end, which have blanks with some attributes alone, are all of these,
-// and there are any.
+// Whether there are any `lines`, all of them among the last `count` ones, which have only blanks with the
+// attributes `blanks`, and `blanks` is `attrs`.
 fn are_all(
     count: usize,
     blanks: Option<&CellAttributes>,
@@ -190,7 +190,7 @@ fn rest_of<'a>(below_too: bool, below: &'a [Line]) -> &'a [Line]
     if below_too { &[] } else { below }
 }
 
-/// Paints rows on plain blanks, from the start of the first; answers whether anything was written.
+/// Paints rows on plain blanks, from the start of the first; returns whether anything was written.
 pub(crate) fn paint_rows<'a>(
     writer: &mut CellWriter<'a>,
     lines: &'a [Line],

@@ -18,7 +18,7 @@ use screen_change::{CellWriter, Change};
 use screen_grid::Grid;
 use std::alloc::{AllocError, Global};
 
-// Another change, which leaves the pen as it is.
+// Writes a change that leaves the pen as it is.
 fn write(writer: &mut CellWriter<'_>, change: Change) -> Result<(), AllocError>
     requires ended { writer.old.cells ≡ [] }
     requires pen { pen_after writer.old.pen (value_of change) ≡ writer.old.pen }
@@ -74,7 +74,7 @@ fn is_home(position: (usize, usize)) -> bool
 }
 
 // The cursor's position, unless nothing was painted and it is home.
-fn write_place(
+fn write_position(
     writer: &mut CellWriter<'_>,
     position: (usize, usize),
     painted: bool,
@@ -150,7 +150,7 @@ fn repaint_from<'a, W: Widths + Drop>(
     write_clear(&mut writer)?;
     write_titles(alloc, &mut writer, grid.title(), also_empty)?;
     let painted = paint_rows(&mut writer, grid.lines())?;
-    write_place(&mut writer, grid.cursor_position(), painted)?;
+    write_position(&mut writer, grid.cursor_position(), painted)?;
     write_pen(&mut writer, pen)?;
     write_cursor(&mut writer, grid.cursor_visibility(), grid.cursor_shape())?;
     let changes = writer.finish()?;
@@ -161,7 +161,7 @@ fn repaint_from<'a, W: Widths + Drop>(
 /// empty; row by row the cells, each run of neighbours of equal attributes after these, unless the
 /// pen has them, and a clear for the blanks of one background at a row's end, unless it is the
 /// default one; where all rows below are blanks of that background too, one clear to the end of the
-/// screen stands for them. Then the cursor's position, the pen, and the cursor with its shape, if it is
+/// screen replaces them. Then the cursor's position, the pen, and the cursor with its shape, if it is
 /// shown.
 pub fn repaint<W: Widths + Drop>(alloc: Global, grid: &Grid<W>) -> Result<Vec<Change>, AllocError>
     requires { IsDrawn grid.now }

@@ -8,7 +8,7 @@ use Rattle.screen_formats.specs.Svg.{svg_text}
 use Rattle.shot.specs.declared.format.Format.{Format}
 use Rattle.shot.specs.declared.format.Format.TheVariants.{Text, Ansi, Html, Svg, Json}
 
--- what stands before the element of a screen, so that a browser reads it as UTF-8
+-- the bytes before the element of a screen, so that a browser reads it as UTF-8
 abbrev pub page : List ℕ
 page = codes "<!doctype html><meta charset=\"utf-8\">\n"
 

@@ -30,7 +30,7 @@ events_after time events = drop (prefix_len (is_by time) events) events
 unfoldable pub view_at : View → List recorded.Event → ℕ → View
 view_at view events time = after program_width view (steps_of (until time events) ++ Look ∷ [])
 
--- the screens at some times, each looked at after the ones before it
+-- the screens at some times, with a look for each, in order
 abbrev pub screens_at : View → List recorded.Event → List ℕ → List Screen
 screens_at view events [] = []
 screens_at view events (time ∷ times) =

@@ -13,7 +13,7 @@ use Rattle.terminal_table.specs.Meaning.{View, new_view}
 abbrev pub last_time : List recorded.Event → ℕ
 last_time events = slice_index (map (λ (event : recorded.Event). event.time) events) (length events - 1)
 
--- the time that is asked for, or that of the last event
+-- the requested time, or that of the last event
 abbrev pub end_of : Option ℕ → List recorded.Event → ℕ
 end_of at events = unwrap_or at (last_time events)
 
@@ -27,12 +27,12 @@ is_known at recording =
 abbrev pub count_below : ℕ → ℕ → ℕ
 count_below step time = if step == 0 then 0 else (time - 1) / step
 
--- so many times, each a step after the one before it, and then others
+-- as many times as the count, each a step after the one before it, and then `remaining`
 abbrev pub times_after : ℕ → ℕ → ℕ → List ℕ → List ℕ
 times_after time step zero remaining = remaining
 times_after time step (suc count) remaining = (time + step) ∷ times_after (time + step) step count remaining
 
--- the multiples of a step below a time, and then others
+-- the multiples of a step below a time, and then `remaining`
 abbrev pub multiples : ℕ → ℕ → List ℕ → List ℕ
 multiples step time remaining = times_after 0 step (count_below step time) remaining
 

@@ -8,9 +8,9 @@ use Rattle.terminal.specs.Headline.{StandsAt}
 use Rattle.terminal.specs.Terminal.{Terminal}
 use Rattle.terminal_table.specs.Meaning.{View}
 
--- From a view and its events the screens at so many times are to be written, of which some are left a time.
--- Those before them are written, and some events are left: with the screens at the times that are left, and at any
--- others after them, they come to the whole.
+-- The screens at `count` times are to be written from a view and its events; after `time`, `left` of them remain.
+-- Those before are written, and the events `rest` remain: with the screens at the remaining times, and at any times
+-- after these, they come to the whole.
 pub record IsWriting {W : Type 0} (format : Format) (view : View) (events : List recorded.Event) (step count : ℕ)
     (terminal : Terminal W) (rest : List recorded.Event) (time left : ℕ) (old new : Option (List ℕ)) : Type 0 where
   pub now : View

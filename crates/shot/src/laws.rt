@@ -11,7 +11,7 @@ ghost use Rattle.shot.specs.declared.format.Format.{Format};
 ghost use Rattle.terminal_table.specs.History.{Look};
 ghost use Rattle.terminal_table.specs.Meaning.{meaning};
 
-/// The events of a recording up to a time are exactly those at it or before it, and the others are after them.
+/// The events of a recording up to a time are exactly those at it or before it, and the rest come after them.
 pub fn events_are_cut_at_a_time()
     ensures until { (time : ℕ) (events : List RecordedEvent) → AreFrom 0 events
         → until time events ≡ filter (is_by time) events }
@@ -19,8 +19,8 @@ pub fn events_are_cut_at_a_time()
         → events_after time events ≡ filter (λ event. not (is_by time event)) events }
 {}
 
-/// Without a step one screen is written of a recording without a wrong line: that of a new terminal of its size after
-/// the events up to the time that is asked for, and a look.
+/// Without a step the program writes one screen of a recording without a wrong line: that of a new terminal of its size
+/// after the events up to the requested time, and a look.
 pub fn one_screen_is_that_of_the_time()
     ensures { (format : Format) (at : Option ℕ) (recording : Recording) → recording.fault ≡ None
         → shots format at 0 recording ≡ picture format (meaning program_width recording.width recording.height

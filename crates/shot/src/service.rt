@@ -133,8 +133,8 @@ const USUAL: Size = Size {
     height: 24,
 };
 
-/// Writes what is asked for of an input to the writer, and answers the line of it that is wrong, if one is; then those
-/// screens are written that no more lines could have changed.
+/// Writes the requested screens of an input to the writer, and returns the line of it that is wrong, if one is; then
+/// it writes those screens that no more lines could have changed.
 pub fn shoot<T: Write>(
     alloc: Global,
     options: Options<'_>,
@@ -175,7 +175,7 @@ fn tell_line<F: Write>(alloc: Global, name: &str, bad: BadLine, faults: &mut F) 
     }
 }
 
-// Writes what is asked for of an input that was read.
+// Writes the requested screens of an input that was read.
 fn answer<T: Write, F: Write>(
     alloc: Global,
     options: Options<'_>,
@@ -202,9 +202,9 @@ fn answer<T: Write, F: Write>(
     }
 }
 
-/// Reads an input of a name to its end, and writes what is asked for of it. It answers the status: 0; or 1 with one
-/// line on `faults`, where the input can't be read or a line of it is wrong, or where writing or memory failed; what
-/// was written before stands.
+/// Reads an input of a name to its end, and writes the requested screens of it. It returns the status: 0; or 1 with one
+/// line on `faults`, where the input can't be read or a line of it is wrong, or where writing or memory failed; the
+/// output written before that stays.
 pub fn serve<R: Read, T: Write, F: Write>(
     alloc: Global,
     options: Options<'_>,

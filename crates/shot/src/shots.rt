@@ -37,7 +37,7 @@ fn count_below(step: u64, time: u64) -> u64
     time.saturating_sub(1) / step
 }
 
-// Writes the screens at so many times, each a step after the one before it; the events after the last one are left.
+// Writes the screens at `count` times, each a step after the one before it; returns the events after the last one.
 fn write_steps<'a, T: Write>(
     alloc: Global,
     terminal: &mut Screen,
@@ -103,18 +103,18 @@ fn write_part<T: Write>(
     Ok(())
 }
 
-/// What is asked for of a recording.
+/// The requested screens of a recording.
 #[derive(Clone, Copy, Debug, PartialEq, Eq)]
 pub struct Shots {
     /// The form of each screen.
     pub format: Format,
     /// At how many microseconds; without it at the last event.
     pub at: Option<u64>,
-    /// And at each multiple of so many microseconds before that, if not 0.
+    /// And at each multiple of this many microseconds before that, if not 0.
     pub step: u64,
 }
 
-// Writes the screens that are asked for, by a new terminal.
+// Writes the requested screens, by a new terminal.
 fn write_by<T: Write>(
     alloc: Global,
     terminal: &mut Screen,
@@ -155,9 +155,9 @@ fn write_by<T: Write>(
     Ok(())
 }
 
-/// Plays a recording to a new terminal of its size, and writes the screen at the time that is asked for, as it is
-/// after all that is done at that time or before it; and before it those at each multiple of the step. A screen is
-/// looked at after those before it. Of a recording with a line that is wrong those are written that no more events can
+/// Plays a recording to a new terminal of its size, and writes the screen at the requested time, as it is after all
+/// events at that time or before it; and before it those at each multiple of the step. The terminal takes a look for
+/// each screen, in order. Of a recording with a line that is wrong it writes those screens that no more events can
 /// change.
 pub fn write_shots<T: Write>(
     alloc: Global,

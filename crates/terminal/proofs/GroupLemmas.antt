@@ -92,9 +92,9 @@ run_again : (attributes : Attributes) (text : List ℕ) (texts : List (List ℕ)
 run_again attributes text [] ws runs e p = ap (before_runs (cell_of (text, attributes))) e ∙ stands_alone attributes text runs p
 run_again attributes text (next ∷ texts) ws runs e p =
     let rest : List CellRun = run_of attributes (next ∷ texts) ∷ runs in
-    let apart : NoNeighborsJoin HaveEqualAttributes rest =
+    let separate : NoNeighborsJoin HaveEqualAttributes rest =
     other_first HaveEqualAttributes (run_of attributes (text ∷ next ∷ texts)) (run_of attributes (next ∷ texts)) runs (λ other j. j) p in
-    ap (before_runs (cell_of (text, attributes))) (run_again attributes next texts ws runs e apart)
+    ap (before_runs (cell_of (text, attributes))) (run_again attributes next texts ws runs e separate)
     ∙ ap (λ t. if t then run_of attributes (text ∷ next ∷ texts) ∷ runs else run_of attributes (text ∷ []) ∷ rest) ((same_attributes_decides attributes attributes).1 refl)
 
 first_again : (attributes : Attributes) (texts : List (List ℕ)) (ws : List (List ℕ × Attributes)) (runs : List CellRun)
@@ -171,8 +171,8 @@ stretch_again row column first [] cells ss e p = ap (before_stretches (placed_at
 stretch_again row column first (next ∷ remaining) cells ss e p =
     let c : PlacedCell = placed_at row column first in
     let s : Stretch = stretch_of row (column + first.width) next remaining in
-    let apart : NoNeighborsJoin GoesOn (s ∷ ss) = other_first GoesOn (stretch_of row column first (next ∷ remaining)) s ss (λ other j. j) p in
-    ap (before_stretches c) (stretch_again row (column + first.width) next remaining cells ss e apart)
+    let separate : NoNeighborsJoin GoesOn (s ∷ ss) = other_first GoesOn (stretch_of row column first (next ∷ remaining)) s ss (λ other j. j) p in
+    ap (before_stretches c) (stretch_again row (column + first.width) next remaining cells ss e separate)
     ∙ ap (λ t. if t then longer c s ∷ ss else alone c ∷ s ∷ ss) (goes_on_if c s (refl, refl))
 
 stretches_again : (ss : List Stretch) → NoNeighborsJoin GoesOn ss → stretches (flat_map placed_by ss) ≡ ss

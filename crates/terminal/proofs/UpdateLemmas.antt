@@ -363,8 +363,8 @@ module _ {W : Type 0} (width_of : W → List ℕ → ℕ) (w : W) where
     Past x = 2 ^ 64 ≤ x.log.log.number
 
     -- the whole of the input leads further than its prefix
-    past_front : (prefix remaining : History) → standing_after f start (looks (in_pieces every [] input)) ≡ standing_after f s.last (prefix ++ remaining) → 2 ^ 64 ≤ (standing_after f s.last prefix).log.log.number → 2 ^ 64 ≤ number_after f every start input
-    past_front prefix remaining e n =
+    past_prefix : (prefix remaining : History) → standing_after f start (looks (in_pieces every [] input)) ≡ standing_after f s.last (prefix ++ remaining) → 2 ^ 64 ≤ (standing_after f s.last prefix).log.log.number → 2 ^ 64 ≤ number_after f every start input
+    past_prefix prefix remaining e n =
         let whole = e ∙ standings_join f s.last prefix remaining in
         let rises = number_rises f (standing_after f s.last prefix) remaining in
         subst (λ (x : Standing). 2 ^ 64 ≤ x.log.log.number) (sym whole) (omega arith)
@@ -383,7 +383,7 @@ module _ {W : Type 0} (width_of : W → List ℕ → ℕ) (w : W) where
         let room = s.room in
         let piece = s.begun ++ bytes in
         let h = holds every s.begun bytes next (omega arith) in
-        past_front (Piece piece ∷ []) (Piece h.more ∷ Look ∷ looks h.remaining)
+        past_prefix (Piece piece ∷ []) (Piece h.more ∷ Look ∷ looks h.remaining)
         (pieces_after ((piece ++ h.more) ∷ h.remaining) (input_is bytes next e ∙ ap (λ ps. s.done ++ ps) h.are) ∙ sym (standings_cut actions_join f s.last piece h.more (Look ∷ looks h.remaining)))
         (subst (λ (x : Standing). 2 ^ 64 ≤ x.log.log.number) (pieces_join f s.last s.begun bytes) (needs_there width_of w s.from t here (Piece bytes ∷ []) tt same s.answers n))
 
@@ -398,13 +398,13 @@ module _ {W : Type 0} (width_of : W → List ℕ → ℕ) (w : W) where
     past_look next bytes u e same widths g full some n =
         let room = s.room in
         let piece = s.begun ++ bytes in
-        past_front (looks (piece ∷ [])) (looks (in_pieces every [] next))
+        past_prefix (looks (piece ∷ [])) (looks (in_pieces every [] next))
         (pieces_after (piece ∷ in_pieces every [] next) (input_is bytes next e ∙ ap (λ ps. s.done ++ ps) (fills every s.begun bytes next (omega arith) (omega arith))))
         (look_needs piece u widths (fed_on bytes u same g) n)
 
     pub past_end : rest ≡ [] → t.surface.grid.widths ≡ w → NeedsNumber width_of t (Look ∷ []) → 2 ^ 64 ≤ number_after f every start input
     unfolding next_of with_piece
     past_end e same n =
-        past_front (looks (s.begun ∷ [])) []
+        past_prefix (looks (s.begun ∷ [])) []
         (pieces_after (s.begun ∷ []) (ap (in_pieces every []) (s.whole ∙ ap (λ l. s.read ++ l) e) ∙ s.pieces []))
         (look_needs s.begun t same s.answers n)

@@ -27,7 +27,7 @@ use Rattle.terminal.proofs.PrintLemmas.{prints_stay}
 use Rattle.terminal.proofs.SpellLemmas.{still_held}
 use Rattle.terminal_steps.specs.Events as steps
 use Rattle.terminal_steps.specs.declared.state.TerminalState.{TerminalState}
-use Rattle.terminal_viewers.specs.Patch.{patch_of, place_prints}
+use Rattle.terminal_viewers.specs.Patch.{patch_of, position_prints}
 use Rattle.terminal_viewers.specs.Reading.{CanReadPatch, PatchesAreShown, PatchesArePlain, PatchesLeaveIdle, PatchesPrintFreshCells, patch_for}
 use Rattle.terminal_table.specs.Prints.{IsPlain}
 use Rattle.terminal_table.specs.Prints.{prints as prints_of}
@@ -172,10 +172,10 @@ module _ {W : Type 0} (width_of : W → List ℕ → ℕ) where
         let quiet = subst (λ bytes. alone.IsIdle (after (of v) sv.view (Piece bytes ∷ []))) (sym bytes_are) (law (of v) sv.view new_screen reads_patch) in
         record { run = there.run ∙ quiet.run; unfinished = there.unfinished ∙ quiet.stream }
 
-    pub patch_printed : PatchesPrintFreshCells → prints_of (of v) sv.view (patch_from t shown) ≡ map text_of (screen_fresh (state_in shown).screen (state_in t).screen) ++ place_prints (state_in t).screen
+    pub patch_printed : PatchesPrintFreshCells → prints_of (of v) sv.view (patch_from t shown) ≡ map text_of (screen_fresh (state_in shown).screen (state_in t).screen) ++ position_prints (state_in t).screen
     patch_printed law =
         ap (prints_of (of v) sv.view) bytes_are ∙ law (of v) sv.view new_screen reads_patch
-        ∙ ap (λ x. map text_of (screen_fresh x new_screen) ++ place_prints new_screen) (sym old_is)
+        ∙ ap (λ x. map text_of (screen_fresh x new_screen) ++ position_prints new_screen) (sym old_is)
 
     pub patch_plain : PatchesArePlain → IsPlain (of v) sv.view (patch_from t shown)
     patch_plain law = subst (IsPlain (of v) sv.view) (sym bytes_are) (law (of v) sv.view new_screen reads_patch)

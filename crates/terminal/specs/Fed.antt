@@ -6,23 +6,23 @@ use Rattle.terminal_table.specs.History.{Piece}
 use Rattle.terminal_viewers.specs.Updates.{Standing, standing_after}
 use Rattle.terminal_viewers.specs.Viewers.{AnswersAs}
 
--- from a number on a terminal answers as one that keeps all and stands there
+-- from a number on a terminal answers as one at the standing `whole` that keeps all changes
 pub record AnswersAt {W : Type 0} (number : ℕ) (t : Terminal W) (whole : Standing) : Type 0 where
   pub kept : Standing
   pub at : IsAt t kept
   pub answers : AnswersAs number kept whole
 
--- so it does from the current number on
+-- a terminal answers in this way from the current number on
 abbrev pub AnswersNow : {W : Type 0} → Terminal W → Standing → Type 0
 AnswersNow t whole = AnswersAt whole.log.log.number t whole
 
--- some bytes were fed: wherever the terminal stood before, it answers as one that was fed them and keeps all
+-- the terminal has read some bytes: from whatever standing, it answers as one that read them and keeps all changes
 pub record IsFed {W : Type 0} (width_of : W → List ℕ → ℕ) (bytes : List ℕ) (before now : Terminal W) : Type 0 where
   pub answers : (start : Standing) → IsAt before start → IsCounted start
       → AnswersNow now (standing_after (width_of before.surface.grid.widths) start (Piece bytes ∷ []))
   pub widths : now.surface.grid.widths ≡ before.surface.grid.widths
 
--- of a known input some bytes were read, and fed; and others are left
+-- of a known input the terminal has read some bytes, and the rest are left
 pub record HasFed {W : Type 0} (width_of : W → List ℕ → ℕ) (input rest : List ℕ) (before now : Terminal W) : Type 0
   where
     pub fed : List ℕ

@@ -33,7 +33,7 @@ written_by run = map (λ text. (text, run.attributes)) run.cells
 abbrev pub HaveEqualAttributes : CellRun → CellRun → Type 0
 HaveEqualAttributes run next = run.attributes ≡ next.attributes
 
--- the runs' texts with their attributes are those of the cells; no run is empty, and the next one's attributes differ
+-- the runs hold the texts and attributes of the cells; no run is empty, and the next one's attributes differ
 abbrev pub AreRunsOf : List CellContent → List CellRun → Type 0
 AreRunsOf cells runs = AreLongestGroupsOf written_by HaveEqualAttributes (map written cells) runs
 

@@ -6,7 +6,7 @@ use Rattle.screen_difference.specs.FreshCells.{screen_fresh}
 use Rattle.screen_difference.specs.Prints.{text_of}
 use Rattle.terminal.specs.Terminal.{Terminal, state_in}
 use Rattle.terminal.specs.Viewing.{CanReadFrom, patch_from, standing_of}
-use Rattle.terminal_viewers.specs.Patch.{place_prints}
+use Rattle.terminal_viewers.specs.Patch.{position_prints}
 use Rattle.terminal_table.specs.Prints.{prints}
 use Rattle.terminal_viewers.specs.Sessions.{Answer, Answers, Turn, new_chain, session}
 use Rattle.terminal_viewers.specs.Showing.{IsShown, IsTurn}
@@ -14,18 +14,18 @@ use Rattle.terminal_table.specs.History.{History, Piece}
 use Rattle.terminal_table.specs.Logged.{log_after}
 use Rattle.terminal_table.specs.Meaning.{View, after}
 
--- A terminal stands at a view: it has its state and its run, and of its stream nothing else is unfinished.
+-- A terminal is at a view: it has its state and its run, and of its stream nothing else is unfinished.
 pub record StandsAt {W : Type 0} (t : Terminal W) (view : View) : Type 0 where
   pub state : state_in t ≡ view.state
   pub run : t.run ≡ view.held
   pub unfinished : t.unfinished ≡ held_of view.stream
 
--- the log after a history, from where a terminal stands
+-- the log after a history, from the view of a terminal
 abbrev pub final_log : {W : Type 0} → (W → List ℕ → ℕ) → Terminal W → View → History → Sized
 final_log width_of t view history = log_after (width_of t.surface.grid.widths) view t.surface.log history
 
--- Its screen and replies are the table's meaning of a history of bytes, looks and resizes: wherever it stood before, it
--- now stands where the history leads, and the changes of the history were logged.
+-- Its screen and replies are the table's meaning of a history of bytes, looks and resizes: from whatever view, it is
+-- now at the view to which the history leads, and its log is the log after the history.
 pub record GoesBy {W : Type 0} (width_of : W → List ℕ → ℕ) (before now : Terminal W) (history : History) : Type 0 where
   pub stands : (view : View) → StandsAt before view
       → StandsAt now (after (width_of before.surface.grid.widths) view history)
@@ -48,9 +48,9 @@ ViewersShow width_of t = (view : View) (count : ℕ) (turns : List Turn) (at : �
     let chain = session (width_of t.surface.grid.widths) start (turns ++ Answers at answer ∷ []) in
     IsShown at chain.terminal chain.viewers
 
--- A patch prints exactly the cells not already shown, and one more only at a pending wrap (`place_prints`).
+-- A patch prints exactly the cells not already shown, and one more only at a pending wrap (`position_prints`).
 abbrev pub PatchesPrintFresh : {W : Type 0} → (W → List ℕ → ℕ) → Terminal W → Terminal W → Type 0
 PatchesPrintFresh {W} width_of t viewer = (shown : Terminal W) (view : View)
     → CanReadFrom width_of t viewer shown → StandsAt viewer view
     → prints (width_of viewer.surface.grid.widths) view (patch_from t shown)
-    ≡ map text_of (screen_fresh (state_in shown).screen (state_in t).screen) ++ place_prints (state_in t).screen
+    ≡ map text_of (screen_fresh (state_in shown).screen (state_in t).screen) ++ position_prints (state_in t).screen

@@ -9,7 +9,7 @@ use Rattle.terminal_table.specs.History.{Look, Forget}
 use Rattle.terminal_viewers.specs.Update.{update_of}
 use Rattle.terminal_viewers.specs.Updates.{Standing, in_pieces, looks, standing_after, updates_after}
 
--- a terminal stands at a view, with a log
+-- a terminal is at a view, with a log
 pub record IsAt {W : Type 0} (t : Terminal W) (s : Standing) : Type 0 where
   pub stands : StandsAt t s.view
   pub log : t.surface.log ≡ s.log
@@ -29,7 +29,7 @@ lightened width_of number s =
     let t = standing_after width_of s (Forget number ∷ []) in
     record t { view = record t.view { state = record t.view.state { replies = [] } } }
 
--- so a terminal does that stood where another does
+-- a terminal forgets the changes before a number, and drops its replies
 pub record Lightens {W : Type 0} (width_of : W → List ℕ → ℕ) (before now : Terminal W) (number : ℕ) : Type 0 where
   pub forgotten : Terminal W
   pub goes : GoesBy width_of before forgotten (Forget number ∷ [])
@@ -63,11 +63,11 @@ SendsSome width_of before number old new =
 
 -- ---- all updates of an input
 
--- the updates of what comes where a terminal stands, for a viewer at number 0
+-- the updates of an input from a standing on, for a viewer at number 0
 abbrev pub updates_from : (List ℕ → ℕ) → ℕ → Standing → List ℕ → List ℕ
 updates_from width_of every start input = updates_after width_of start 0 (in_pieces every [] input)
 
--- how many updates that are: one after each piece that is full, and one at the end
+-- the number of updates: one after each full chunk, and one at the end
 abbrev pub update_count : ℕ → List ℕ → ℕ
 update_count every input = length (in_pieces every [] input)
 
@@ -96,12 +96,12 @@ SendsFirst width_of every before (Some input) left old new =
     (start : Standing) → IsAt before start → IsCounted start
     → SendsPart (width_of before.surface.grid.widths) every start input left old new
 
--- the number after an input that is looked at after each piece
+-- the number after an input with a look after each chunk
 abbrev pub number_after : (List ℕ → ℕ) → ℕ → Standing → List ℕ → ℕ
 number_after width_of every start input =
     (standing_after width_of start (looks (in_pieces every [] input))).log.log.number
 
--- a known input, looked at after each piece, leads past the numbers of 64 bits
+-- a known input, with a look after each chunk, leads past the numbers of 64 bits
 abbrev pub LooksNeedNumber : {W : Type 0} → (W → List ℕ → ℕ) → ℕ → Terminal W → Option (List ℕ) → Type 0
 LooksNeedNumber width_of every before None = Unit {0}
 LooksNeedNumber width_of every before (Some input) =

@@ -34,7 +34,7 @@ pub record CanReadFrom {W : Type 0} (width_of : W → List ℕ → ℕ) (t viewe
   pub tall : length viewer.surface.grid.lines ≡ length t.surface.grid.lines
   pub shows : (state_in viewer).screen ≡ (state_in shown).screen
 
--- where a terminal stands that stands at a view
+-- the standing of a terminal at a view
 abbrev pub standing_of : {W : Type 0} → Terminal W → View → Standing
 standing_of t view = record { view = view; log = t.surface.log }
 

@@ -138,7 +138,7 @@ fn read_all<R: Read, W: Widths + Drop>(
     Ok(terminal)
 }
 
-// The rows of such a terminal.
+// The rows of a new terminal that was fed the whole input, and settled.
 fn rows_of<R: Read, W: Widths + Drop>(
     alloc: Global,
     reader: &mut Watched<R>,

@@ -25,9 +25,9 @@ use crate::terminal::Terminal;
 use cell_base::Widths;
 use terminal_table::laws::single_actions_are_their_rows;
 
-/// Each terminal that hasn't failed stands at a view, with a lawful state and a run without controls; and
-/// its screen, the pen that was saved, the run and each change that its log keeps have a spelling, so that
-/// they can be sent.
+/// Each terminal that hasn't failed is at a view (`StandsAt`), with a lawful state and a run without controls;
+/// and its screen, the saved pen, the run and each change that its log keeps have a spelling, so that they can be
+/// sent.
 pub fn terminals_stand<W: Widths + Drop>(terminal: &Terminal<W>)
     ensures stands { terminal.now.is_failed ≡ false → (view : View) × StandsAt terminal.now view × IsView view }
     ensures spelled { terminal.now.is_failed ≡ false → IsSpelled terminal.now }
@@ -54,7 +54,7 @@ pub fn histories_decide<W: Widths>()
 
 /// Taking the replies on the way changes nothing else. With the replies that were taken before those that it still
 /// has a terminal has gone by the whole history: its screen, its log and all its replies are what the history means.
-pub fn replies_stand_apart<W: Widths>()
+pub fn replies_are_separate<W: Widths>()
     ensures { (before : Terminal W) (now : Terminal W) (calls : List Call) → before.is_failed ≡ false
         → GoesThrough (λ w. W.width_of w) before calls now
         → GoesBy (λ w. W.width_of w) before (with_taken (taken_in calls) now) (history_in calls) }
@@ -91,8 +91,8 @@ pub fn bytes_that_ask_for_nothing<W: Widths>()
         → NeedsMemory (λ w. W.width_of w) before bytes now → BytesTakeMemory view.stream bytes }
 {}
 
-/// The texts of cells stand in runs of equal attributes, and placed cells in stretches side by side, each as long as
-/// may be; and they can be cut so in one way alone.
+/// The texts of cells are in runs of equal attributes, and placed cells in stretches of adjacent cells, each as long
+/// as possible; and there is exactly one such cut of each.
 pub fn written_cells_have_one_cut()
     ensures runs { (cells : List CellContent) → AreRunsOf cells (cell_runs cells) }
     ensures one_run { (cells : List CellContent) (cut : List CellRun) → AreRunsOf cells cut → cut ≡ cell_runs cells }

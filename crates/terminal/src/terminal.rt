@@ -118,8 +118,8 @@ impl<W: Widths + Drop> Terminal<W> {
         Ok(())
     }
 
-    /// Becomes so many columns wide and rows high, each from 1 to 2^32 - 1, as `Surface::resize` does; the held
-    /// run ends before. A saved cursor stays as it is, and is kept within the screen when it is restored.
+    /// Becomes `width` columns wide and `height` rows high, each from 1 to 2^32 - 1, as `Surface::resize` does; the
+    /// held run ends before. A saved cursor stays as it is, and a restore keeps it within the screen.
     /// Refuses as `feed` does.
     pub fn resize(&mut self, width: usize, height: usize) -> Result<(), TerminalError>
         requires width { (0 < width) × (width < 2 ^ 32) }
@@ -250,7 +250,7 @@ impl<W: Widths + Drop> Terminal<W> {
         self.state.surface().current_seqno()
     }
 
-    // A terminal that hasn't failed stands at a view, and each of its changes can be sent.
+    // A terminal that hasn't failed is at a view, and each of its changes can be sent.
     pub(crate) fn stands(&self)
         ensures stands { self.now.is_failed ≡ false → (view : View) × StandsAt self.now view × IsView view }
         ensures spelled { self.now.is_failed ≡ false → IsSpelled self.now }

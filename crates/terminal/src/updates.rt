@@ -1,4 +1,4 @@
-//! The updates of an input, written after each of so many bytes.
+//! The updates of an input, one after each chunk of `every` bytes and one at the end.
 ghost use Rattle.std.specs.Prelude.{◌≡◌, ◌↔◌, ◌<◌, ◌≤◌, ◌^◌, false, IsTrue, IsErr, IfOk, IfSome, OnOk, OnErr, IsErrOf};
 ghost use Rattle.std.specs.Prelude.{[], ◌∷◌};
 ghost use Rattle.std.specs.Io.KnownBytes.{Appends};
@@ -63,7 +63,7 @@ fn due_from<W: Widths + Drop>(terminal: &Terminal<W>, number: SequenceNo) -> Seq
     }
 }
 
-// Feeds the whole input, and writes an update after each of so many bytes and at the end.
+// Feeds the whole input, and writes an update after each chunk of `every` bytes and at the end.
 fn write_updates<R: Read, T: Write, W: Widths + Drop>(
     reader: &mut Watched<R>,
     writer: &mut Watched<T>,

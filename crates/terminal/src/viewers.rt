@@ -81,8 +81,8 @@ pub fn patches_are_shown<W: Widths + Drop>(terminal: &Terminal<W>, viewer: &Term
     viewers_read_patches();
 }
 
-/// Such a viewer prints of the patch the cells that it doesn't show yet, each once, row by row, and after them,
-/// exactly where a wrap is pending on the terminal, the last visible cell of the cursor's row; and nothing else that
+/// A viewer that can read a patch prints from it the cells that it doesn't show yet, each once, row by row, and after
+/// them, exactly where a wrap is pending on the terminal, the last visible cell of the cursor's row; nothing else that
 /// it reads changes its rows, and nothing scrolls.
 pub fn patches_print_the_fresh_cells<W: Widths + Drop>(terminal: &Terminal<W>, viewer: &Terminal<W>)
     ensures prints { PatchesPrintFresh (λ w. W.width_of w) terminal.now viewer.now }
@@ -115,8 +115,8 @@ pub fn sessions_show_the_screen<W: Widths + Drop>(terminal: &Terminal<W>)
 }
 
 /// A screen that shows a terminal at a number, not above the current one, goes on to show it at that number,
-/// whatever the terminal is fed, wherever it is looked at and whatever it forgets, if it takes on the same
-/// sizes. And a terminal's own screen shows it at its current number.
+/// whatever bytes the terminal reads, wherever it takes a look and whatever it forgets, if the screen takes on the
+/// same sizes. And a terminal's own screen shows it at its current number.
 pub fn terminals_go_on_being_shown<W: Widths + Drop>(terminal: &Terminal<W>)
     ensures history { (shown : Screen) (number : ℕ) (now : Terminal W) (history : History)
         → terminal.now.is_failed ≡ false → AreSizes history → IsDisplay (display_on shown)
@@ -214,8 +214,8 @@ pub fn renderings_are_shown<W: Widths + Drop>(viewer: &Terminal<W>)
     rendered_texts_have_the_effect();
 }
 
-/// A new terminal that is fed the updates of an input, as `run` writes them, shows what a terminal shows that
-/// is fed the input and looked at after each of so many bytes and at the end; and it is idle.
+/// A new terminal that reads the updates of an input, as `run` writes them, shows what a terminal shows that
+/// reads the input and takes a look after each chunk of `every` bytes and at the end; and it is idle.
 pub fn new_viewers_show_the_input<W: Widths>()
     ensures shown { (widths : W) (width : ℕ) (height : ℕ) (every : ℕ) (input : List ℕ) (new : Terminal W)
         (after : Terminal W) → 0 < width → width < 2 ^ 32 → 0 < height → height < 2 ^ 32

@@ -21,7 +21,7 @@ use Rattle.escape_stream.specs.StreamAction.{StreamAction, command}
 use Rattle.screen_effects.specs.Strokes.{text_parts}
 use Rattle.terminal_render.specs.Carried.{HasColor, IsChange}
 use Rattle.terminal_render.specs.Pen.{colour_setting, rendition, link_action, attribute_action, plain_pen, clear_rendering}
-use Rattle.terminal_render.specs.Places.{Way, At, Back, On, moves, way_of, position_moves}
+use Rattle.terminal_render.specs.Positions.{Way, At, Back, On, moves, way_of, position_moves}
 use Rattle.terminal_render.specs.Rendering.{edited, moved, is_whole, scroll_rendering, rendering}
 use Rattle.terminal_render.specs.Texts.{part_actions, text_rendering, title_rendering}
 use Rattle.terminal_render.specs.Spelling.{IsSpelledColor, IsSpelledPen, IsSpelledText, IsSpelledTitle, IsSpelledValue, IsSpelledChange, HasSpelling, HaveSpellings, IsLinePart, IsSpelledScreen, IsSpelledSaved, IsSpelledFunction}
@@ -36,14 +36,14 @@ use Rattle.terminal_table.specs.Functions.{Move, ControlFunction}
 use Rattle.terminal_table.specs.Steps.{cursor_to_restore}
 use Rattle.terminal_table.specs.Changes.{position, move_change, rendition_changes, changes}
 use Rattle.terminal_render.proofs.TextLemmas.{spelled_append, spelled_ascii}
-use Rattle.terminal_render.proofs.SpelledPenLemmas.{some_is, equal_some, map_some, told_some, encoded_color, pen_some}
+use Rattle.terminal_render.proofs.SpelledPenLemmas.{some_is, equal_some, map_some, setting_some, encoded_color, pen_some}
 
 -- ---- single changes
 
 value_some : (value : AttributeValue) → IsSpelledValue value → attribute_action value ≢ None
 unfolding attribute_action
-value_some (one.Foreground color) h = map_some rendition (option_map sgr.Foreground (colour_setting color)) (map_some sgr.Foreground (colour_setting color) (told_some color h))
-value_some (one.Background color) h = map_some rendition (option_map sgr.Background (colour_setting color)) (map_some sgr.Background (colour_setting color) (told_some color h))
+value_some (one.Foreground color) h = map_some rendition (option_map sgr.Foreground (colour_setting color)) (map_some sgr.Foreground (colour_setting color) (setting_some color h))
+value_some (one.Background color) h = map_some rendition (option_map sgr.Background (colour_setting color)) (map_some sgr.Background (colour_setting color) (setting_some color h))
 value_some (one.Hyperlink link) h = equal_some _ (link_action link) (ap (λ b. if b then Some (link_action link) else None) h)
 value_some _ h = some_is _
 
@@ -57,7 +57,7 @@ title_some text p = equal_some _ (command (set_window_title text) ∷ []) (ap (�
 
 clear_some : (color : ColorAttribute) (erasure : List StreamAction) → IsSpelledColor color → clear_rendering color erasure ≢ None
 unfolding clear_rendering
-clear_some color erasure h = map_some (λ c. plain_pen c ++ erasure) (colour_setting color) (told_some color h)
+clear_some color erasure h = map_some (λ c. plain_pen c ++ erasure) (colour_setting color) (setting_some color h)
 
 scroll_some : (scroll : ℕ → Edit) (height first size count : ℕ) → is_whole height first size ≡ true → scroll_rendering scroll height first size count ≢ None
 unfolding scroll_rendering
@@ -125,22 +125,22 @@ spellings_append width height (x ∷ xs) ys p q = (p.0, spellings_append width h
 
 -- ---- positions that moves reach
 
-at_some : (place : ℕ) (way : Way) → moves (At place) way ≢ None
+at_some : (coordinate : ℕ) (way : Way) → moves (At coordinate) way ≢ None
 unfolding moves
-at_some place (At row) = some_is _
-at_some place (Back rows) = some_is _
-at_some place (On rows) = some_is _
+at_some coordinate (At row) = some_is _
+at_some coordinate (Back rows) = some_is _
+at_some coordinate (On rows) = some_is _
 
-pub place_some : (width height column : ℕ) (y : Position) → column < width → position_moves width height (Absolute column) y ≢ None
+pub coordinate_some : (width height column : ℕ) (y : Position) → column < width → position_moves width height (Absolute column) y ≢ None
 unfolding position_moves
-place_some width height column y h =
+coordinate_some width height column y h =
     let within : nat_le width column ≡ false = grind (arith, nat_tests) in
     subst (λ b. (if b then None else moves (way_of width (Absolute column)) (way_of height y)) ≢ None) (sym within) (at_some (min column (width - 1) + 1) (way_of height y))
 
 -- ---- the changes of control functions go where moves reach
 
 position_placed : (at : ℕ × ℕ) (s : Screen) → 0 < s.width → IsPlaced s.width (height s) (position at s)
-position_placed at s h = place_some s.width (height s) (min at.0 (s.width - 1)) (Absolute (min at.1 (height s - 1))) (omega arith)
+position_placed at s h = coordinate_some s.width (height s) (min at.0 (s.width - 1)) (Absolute (min at.1 (height s - 1))) (omega arith)
 
 all_rows : (n : ℕ) → is_whole n 0 n ≡ true
 all_rows n = grind (arith, nat_tests)
@@ -207,17 +207,17 @@ changes_are_parts table.ReportPosition saved s = tt
 
 -- ---- and bring nothing that has no spelling
 
-attribute_told : (color : ColorSpec) → IsColour color → IsSpelledColor (attribute_of color)
-attribute_told spec.Default h = tt
-attribute_told (spec.PaletteIndex n) h = h
-attribute_told (spec.TrueColor c) h = h
+attribute_spelled : (color : ColorSpec) → IsColour color → IsSpelledColor (attribute_of color)
+attribute_spelled spec.Default h = tt
+attribute_spelled (spec.PaletteIndex n) h = h
+attribute_spelled (spec.TrueColor c) h = h
 
 rendition_spelled : (value : Sgr) (pen : Attributes) → IsWritableSgr value → IsSpelledPen pen → AreSpelledChanges (rendition_changes value pen)
-rendition_spelled (sgr.Foreground value) pen h p = (attribute_told value h, tt)
-rendition_spelled (sgr.Background value) pen h p = (attribute_told value h, tt)
+rendition_spelled (sgr.Foreground value) pen h p = (attribute_spelled value h, tt)
+rendition_spelled (sgr.Background value) pen h p = (attribute_spelled value h, tt)
 rendition_spelled (sgr.Font value) pen h p = tt
 rendition_spelled sgr.Reset pen h p = (record { unwrapped = refl; output = refl; link = p.link; foreground = tt; background = tt; underline = tt }, tt)
-rendition_spelled (sgr.UnderlineColor value) pen h p = (assumption (p, attribute_told value h), tt)
+rendition_spelled (sgr.UnderlineColor value) pen h p = (assumption (p, attribute_spelled value h), tt)
 rendition_spelled (sgr.Overline value) pen h p = (assumption p, tt)
 rendition_spelled (sgr.VerticalAlign value) pen h p = (assumption p, tt)
 rendition_spelled _ pen h p = (tt, tt)

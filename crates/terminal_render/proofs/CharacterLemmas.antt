@@ -97,9 +97,9 @@ long c s = by_kind (spelled c s)
     by_kind (in_four g l e) = rw e (omega arith)
 
 -- bytes that are printed go before the parts after them
-parts_of_front : (prefix rest : List ℕ) → 0 < length prefix → IsPrinted prefix → text_parts (prefix ++ rest) ≡ before_parts prefix (text_parts rest)
-parts_of_front [] rest l h = absurd (omega arith)
-parts_of_front (b ∷ prefix) rest l h = parts_after b prefix rest h
+parts_of_prefix : (prefix rest : List ℕ) → 0 < length prefix → IsPrinted prefix → text_parts (prefix ++ rest) ≡ before_parts prefix (text_parts rest)
+parts_of_prefix [] rest l h = absurd (omega arith)
+parts_of_prefix (b ∷ prefix) rest l h = parts_after b prefix rest h
 
 -- ---- U+0080 to U+009F
 
@@ -141,7 +141,7 @@ low_printable c l e = (grind (arith, nat_tests), grind (arith, nat_tests))
 
 character_good : (c : ℕ) (rest : List ℕ) → IsScalar c → IsPrintable c → AreGood (text_parts rest) → AreGood (text_parts (encode_utf8 c ++ rest))
 character_good c rest s p g =
-    subst AreGood (sym (parts_of_front (encode_utf8 c) rest (long c s) (character_printed c s p))) (good_after c (text_parts rest) s p (long c s) g)
+    subst AreGood (sym (parts_of_prefix (encode_utf8 c) rest (long c s) (character_printed c s p))) (good_after c (text_parts rest) s p (long c s) g)
 
 control_good : (c : ℕ) (rest : List ℕ) → c < 128 → is_ascii_control c ≡ true → Spelled c → AreGood (text_parts rest) → AreGood (text_parts (encode_utf8 c ++ rest))
 control_good c rest l e (in_one m k) g =

@@ -10,7 +10,7 @@ use Rattle.csi_codec.specs.Modes.{mode_spelling}
 use Rattle.csi_codec.specs.Rendition.{sgr_spelling}
 use Rattle.terminal_render.specs.Links.{is_carried}
 use Rattle.terminal_render.specs.Pen.{attribute_action, pen_rendering, clear_rendering}
-use Rattle.terminal_render.specs.Places.{moves, position_moves}
+use Rattle.terminal_render.specs.Positions.{moves, position_moves}
 use Rattle.terminal_render.specs.Rendering.{scroll_rendering}
 use Rattle.terminal_render.specs.Texts.{text_rendering, title_rendering}
 

@@ -18,8 +18,8 @@ use Rattle.terminal_render.proofs.OpeningLemmas.{following_bytes, one_opens, ren
 -- ---- what was there
 
 -- it stands before still where it stood there, and what stood there then does
-pub still_front : (start bytes after : List ℕ) → take (length start) bytes ≡ start → take (length bytes) after ≡ bytes → take (length start) after ≡ start
-still_front start bytes after e f =
+pub still_prefix : (start bytes after : List ℕ) → take (length start) bytes ≡ start → take (length bytes) after ≡ bytes → take (length start) after ≡ start
+still_prefix start bytes after e f =
     let l = sym (length-take (length start) bytes) ∙ ap length e in
     let le : length start ≤ length bytes = omega (arith, l) in
     sym (take-take (length start) (length bytes) after le) ∙ ap (λ xs. take (length start) xs) f ∙ e

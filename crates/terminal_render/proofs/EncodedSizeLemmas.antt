@@ -19,13 +19,13 @@ use Rattle.terminal_render.specs.Spelling.{HasSpelling, HaveSpellings, IsLinePar
 
 -- ---- joined lists: only a string terminator after the end of a string is left out
 
-apart_longer : (closed : Bool) (ys : List StreamAction) → length (texts_after closed ys) ≤ length (stream_text ys)
-apart_longer closed [] = omega arith
-apart_longer closed (y ∷ ys) =
+separate_longer : (closed : Bool) (ys : List StreamAction) → length (texts_after closed ys) ≤ length (stream_text ys)
+separate_longer closed [] = omega arith
+separate_longer closed (y ∷ ys) =
     omega (arith, after_short closed y, length-append (text_after closed y) (texts_after (closes_string y) ys), length-append (text_after false y) (texts_after (closes_string y) ys))
 
 joined_short : (closed : Bool) (xs ys : List StreamAction) → length (texts_after closed (xs ++ ys)) ≤ length (texts_after closed xs) + length (stream_text ys)
-joined_short closed [] ys = omega (arith, apart_longer closed ys)
+joined_short closed [] ys = omega (arith, separate_longer closed ys)
 joined_short closed (x ∷ xs) ys =
     omega (arith, joined_short (closes_string x) xs ys, length-append (text_after closed x) (texts_after (closes_string x) (xs ++ ys)), length-append (text_after closed x) (texts_after (closes_string x) xs))
 

@@ -2,7 +2,7 @@ pub mod Computing
 pub mod LinkLemmas
 pub mod DoneLemmas
 pub mod PenLemmas
-pub mod PlaceLemmas
+pub mod CoordinateLemmas
 pub mod ScrollLemmas
 pub mod ClearLemmas
 pub mod WholeLemmas

@@ -19,7 +19,7 @@ use Rattle.escape_stream.specs.StreamText.{action_text, begins_terminated, close
 use Rattle.screen_effects.specs.Strokes.{TextPart, Control, Plain, text_parts}
 use Rattle.terminal_render.specs.Links.{is_carried, is_plain_text}
 use Rattle.terminal_render.specs.Pen.{rendition, attribute_action, pen_actions, is_unsaid, pen_settings, pen_rendering, plain_pen, clear_rendering, colour_setting}
-use Rattle.terminal_render.specs.Places.{position_moves}
+use Rattle.terminal_render.specs.Positions.{position_moves}
 use Rattle.terminal_render.specs.Rendering.{moved, is_whole, scroll_rendering, rendering}
 use Rattle.terminal_render.specs.Texts.{part_actions, text_rendering, title_rendering}
 

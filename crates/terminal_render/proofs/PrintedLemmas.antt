@@ -20,7 +20,7 @@ use Rattle.screen_effects.specs.Strokes.{TextPart, Control, Plain, with_byte, te
 use Rattle.terminal_render.specs.Links.{is_carried, is_plain_text}
 use Rattle.terminal_render.specs.Lists.{all_rendered}
 use Rattle.terminal_render.specs.Pen.{colour_setting, rendition, link_action, attribute_setting, attribute_action, unless_default, set, pen_actions, is_unsaid, pen_settings, pen_rendering, plain_pen, clear_rendering}
-use Rattle.terminal_render.specs.Places.{position_moves}
+use Rattle.terminal_render.specs.Positions.{position_moves}
 use Rattle.terminal_render.specs.Rendering.{moved, is_whole, scroll_rendering, rendering}
 use Rattle.terminal_render.specs.Texts.{run_actions, part_actions, text_rendering, title_rendering}
 use Rattle.terminal_render.proofs.ListLemmas.{parts}

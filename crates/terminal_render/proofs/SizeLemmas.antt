@@ -18,7 +18,7 @@ use Rattle.screen_change.specs.ChangeValue.{ChangeValue, Attribute, AllAttribute
 use Rattle.csi_codec.specs.Actions as codec
 use Rattle.csi_codec.specs.Sizes.{ActionsAreShort}
 use Rattle.csi_codec.specs.Writable as codec_writable
-use Rattle.csi_codec.specs.Slots.{IsPlace}
+use Rattle.csi_codec.specs.Slots.{IsCoordinate}
 use Rattle.csi_codec.specs.Writable.{IsColour}
 use Rattle.csi_codec.specs.declared.cursors.Cursor.{Cursor}
 use Rattle.csi_codec.specs.declared.cursors.Cursor.TheVariants as cursor
@@ -36,7 +36,7 @@ use Rattle.terminal_table.specs.Turns.{IsPrinted}
 use Rattle.terminal_render.specs.Carried.{IsColor, HaveColors, HasColor, IsChange}
 use Rattle.terminal_render.specs.Links.{is_carried, is_plain_text}
 use Rattle.terminal_render.specs.Pen.{colour_setting, rendition, link_action, attribute_action, unless_default, settings, set, pen_actions, is_unsaid, pen_rendering, plain_pen, clear_rendering}
-use Rattle.terminal_render.specs.Places.{Way, At, Back, On, way_of, is_past, move_by, moves, position_moves}
+use Rattle.terminal_render.specs.Positions.{Way, At, Back, On, way_of, is_past, move_by, moves, position_moves}
 use Rattle.terminal_render.specs.Rendering.{edited, moved, is_whole, scroll_rendering, visibility_mode, rendering}
 use Rattle.terminal_render.specs.Sizes.{link_size, carried_size, RenderingsAreShort, TextsAreShort, RunsAreShort}
 use Rattle.terminal_render.specs.Texts.{part_actions, text_rendering, title_rendering}
@@ -155,14 +155,14 @@ module _ (short : ActionsAreShort) (titles : (text : List ℕ) → TextsTakeSix 
       by_rear prefix f None r = tt
       by_rear prefix f (Some rear) r = by_line prefix rear f r (colour_setting a.underline_color) (color_is a.underline_color h.2)
 
-      by_front : (found : Option ColorSpec) → IfSome found IsColour
+      by_prefix : (found : Option ColorSpec) → IfSome found IsColour
           → Within (link_size a.hyperlink + 320) (option_map (λ values. pen_actions values a.hyperlink) (option_and_then (λ prefix. option_and_then (λ rear. option_map (λ line. settings a prefix rear line) (colour_setting a.underline_color)) (colour_setting a.background)) found))
-      by_front None f = tt
-      by_front (Some prefix) f = by_rear prefix f (colour_setting a.background) (color_is a.background h.1)
+      by_prefix None f = tt
+      by_prefix (Some prefix) f = by_rear prefix f (colour_setting a.background) (color_is a.background h.1)
 
       by_test : (b : Bool) → is_unsaid a ≡ b → Within (link_size a.hyperlink + 320) (pen_rendering a)
       by_test true e = rw e tt
-      by_test false e = rw e (by_front (colour_setting a.foreground) (color_is a.foreground h.0))
+      by_test false e = rw e (by_prefix (colour_setting a.foreground) (color_is a.foreground h.0))
 
   title_is : (text : List ℕ) → Within (length text + 320) (title_rendering text)
   unfolding title_rendering
@@ -252,7 +252,7 @@ module _ (short : ActionsAreShort) (titles : (text : List ℕ) → TextsTakeSix 
       by_test true e = rw e tt
       by_test false e = rw e (found_moves (moves (way_of width x) (way_of height y)) (moves_are (way_of width x) (way_of height y) (way_is width x a b) (way_is height y c d)) (few_moves (way_of width x) (way_of height y)))
 
-  scroll_is : (scroll : ℕ → Edit) (height first size count : ℕ) → ((n : ℕ) → IsPlace n → codec_writable.IsWritableEdit (scroll n)) → 0 < height → height < 2 ^ 32 → Within (0 + 320) (scroll_rendering scroll height first size count)
+  scroll_is : (scroll : ℕ → Edit) (height first size count : ℕ) → ((n : ℕ) → IsCoordinate n → codec_writable.IsWritableEdit (scroll n)) → 0 < height → height < 2 ^ 32 → Within (0 + 320) (scroll_rendering scroll height first size count)
   unfolding scroll_rendering
   scroll_is scroll height first size count w h k = by_test (is_whole height first size) refl
     where

@@ -32,17 +32,17 @@ then_some f (Some x) h k = k x
 
 -- ---- colours and pens
 
-pub told_some : (color : ColorAttribute) → IsSpelledColor color → colour_setting color ≢ None
-told_some (attribute.TrueColorWithPaletteFallback color index) h = absurd h
-told_some (attribute.TrueColorWithDefaultFallback color) h = some_is _
-told_some (attribute.PaletteIndex index) h = some_is _
-told_some attribute.Default h = some_is _
+pub setting_some : (color : ColorAttribute) → IsSpelledColor color → colour_setting color ≢ None
+setting_some (attribute.TrueColorWithPaletteFallback color index) h = absurd h
+setting_some (attribute.TrueColorWithDefaultFallback color) h = some_is _
+setting_some (attribute.PaletteIndex index) h = some_is _
+setting_some attribute.Default h = some_is _
 
-some_told : (color : ColorAttribute) → IsColor color → colour_setting color ≢ None → IsSpelledColor color
-some_told (attribute.TrueColorWithPaletteFallback color index) k h = absurd (h refl)
-some_told (attribute.TrueColorWithDefaultFallback color) k h = k
-some_told (attribute.PaletteIndex index) k h = k
-some_told attribute.Default k h = tt
+setting_spelled : (color : ColorAttribute) → IsColor color → colour_setting color ≢ None → IsSpelledColor color
+setting_spelled (attribute.TrueColorWithPaletteFallback color index) k h = absurd (h refl)
+setting_spelled (attribute.TrueColorWithDefaultFallback color) k h = k
+setting_spelled (attribute.PaletteIndex index) k h = k
+setting_spelled attribute.Default k h = tt
 
 pub encoded_color : (color : ColorAttribute) → IsSpelledColor color → IsColor color
 encoded_color (attribute.TrueColorWithPaletteFallback color index) h = absurd h
@@ -52,9 +52,9 @@ encoded_color attribute.Default h = tt
 
 settings_some : (a : Attributes) → IsSpelledPen a → pen_settings a ≢ None
 settings_some a p =
-    then_some _ (colour_setting a.foreground) (told_some a.foreground p.foreground)
-    (λ prefix. then_some _ (colour_setting a.background) (told_some a.background p.background)
-    (λ back. map_some (λ line. settings a prefix back line) (colour_setting a.underline_color) (told_some a.underline_color p.underline)))
+    then_some _ (colour_setting a.foreground) (setting_some a.foreground p.foreground)
+    (λ prefix. then_some _ (colour_setting a.background) (setting_some a.background p.background)
+    (λ back. map_some (λ line. settings a prefix back line) (colour_setting a.underline_color) (setting_some a.underline_color p.underline)))
 
 pub pen_some : (a : Attributes) → IsSpelledPen a → pen_rendering a ≢ None
 unfolding pen_rendering
@@ -95,7 +95,7 @@ some_pen a k h =
     (λ e.
     let found = subst (λ b. (if b then None else option_map (λ values. pen_actions values a.hyperlink) (pen_settings a)) ≢ None) e h in
     let colors = three_some (settings a) (colour_setting a.foreground) (colour_setting a.background) (colour_setting a.underline_color) (mapped_some (λ values. pen_actions values a.hyperlink) (pen_settings a) found) in
-    said a e (some_told a.foreground k.0 colors.first) (some_told a.background k.1 colors.second) (some_told a.underline_color k.2 colors.third))
+    said a e (setting_spelled a.foreground k.0 colors.first) (setting_spelled a.background k.1 colors.second) (setting_spelled a.underline_color k.2 colors.third))
   where
     said : (a : Attributes) → is_unsaid a ≡ false → IsSpelledColor a.foreground → IsSpelledColor a.background → IsSpelledColor a.underline_color → IsSpelledPen a
     said a e prefix back line =

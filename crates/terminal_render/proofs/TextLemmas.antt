@@ -78,23 +78,23 @@ character_free c rest s t = by_kind (spelled c s) t
         ∙ not_lead (128 + (c / 64) % 64) _ (below_lead (c / 64))
         ∙ not_lead (128 + c % 64) rest (below_lead c)
 
-character_told : (c : ℕ) (rest : List ℕ) → IsScalar c → holds_c1 (encode_utf8 c ++ rest) ≡ false → IsNoC1 c
-character_told c rest s h = by_order (order c 128)
+character_no_c1 : (c : ℕ) (rest : List ℕ) → IsScalar c → holds_c1 (encode_utf8 c ++ rest) ≡ false → IsNoC1 c
+character_no_c1 c rest s h = by_order (order c 128)
   where
     by_order : (c < 128) ⊎ (128 ≤ c) → IsNoC1 c
     by_order (inl l) = inl l
     by_order (inr l) = inr (above c rest s l h)
 
-printable_told : (c : ℕ) → IsPrintable c → IsNoC1 c
-printable_told c (inl low) = let h = low.1 in inl (omega arith)
-printable_told c (inr high) = inr high
+printable_no_c1 : (c : ℕ) → IsPrintable c → IsNoC1 c
+printable_no_c1 c (inl low) = let h = low.1 in inl (omega arith)
+printable_no_c1 c (inr high) = inr high
 
 -- before more bytes
 characters_free : (cs rest : List ℕ) → scalars cs ≡ true → holds_c1 (encode_utf8_all cs) ≡ false → holds_c1 (encode_utf8_all cs ++ rest) ≡ holds_c1 rest
 characters_free [] rest s h = refl
 characters_free (c ∷ cs) rest s h =
     let p = and_parts (scalar c) (scalars cs) s in
-    ap holds_c1 (append_assoc (encode_utf8 c) (encode_utf8_all cs) rest) ∙ character_free c (encode_utf8_all cs ++ rest) p.0 (character_told c (encode_utf8_all cs) p.0 h)
+    ap holds_c1 (append_assoc (encode_utf8 c) (encode_utf8_all cs) rest) ∙ character_free c (encode_utf8_all cs ++ rest) p.0 (character_no_c1 c (encode_utf8_all cs) p.0 h)
     ∙ characters_free cs rest p.1 (no_c1_after (encode_utf8 c) (encode_utf8_all cs) h)
 
 printable_free : (cs : List ℕ) → scalars cs ≡ true → All IsPrintable cs → holds_c1 (encode_utf8_all cs) ≡ false
@@ -102,15 +102,15 @@ unfolding holds_c1
 printable_free [] s h = refl
 printable_free (c ∷ cs) s h =
     let p = and_parts (scalar c) (scalars cs) s in
-    character_free c (encode_utf8_all cs) p.0 (printable_told c (All-head IsPrintable c cs h)) ∙ printable_free cs p.1 (All-tail IsPrintable c cs h)
+    character_free c (encode_utf8_all cs) p.0 (printable_no_c1 c (All-head IsPrintable c cs h)) ∙ printable_free cs p.1 (All-tail IsPrintable c cs h)
 
-front_free : (prefix rest : List ℕ) → holds_c1 (prefix ++ rest) ≡ false → holds_c1 prefix ≡ false
+prefix_free : (prefix rest : List ℕ) → holds_c1 (prefix ++ rest) ≡ false → holds_c1 prefix ≡ false
 unfolding holds_c1
-front_free [] rest h = refl
-front_free (b ∷ []) rest h = refl
-front_free (b ∷ c ∷ prefix) rest h =
+prefix_free [] rest h = refl
+prefix_free (b ∷ []) rest h = refl
+prefix_free (b ∷ c ∷ prefix) rest h =
     let p = or_parts (is_c1 b c) (holds_c1 (c ∷ prefix ++ rest)) h in
-    λ i. p.0 i || front_free (c ∷ prefix) rest p.1 i
+    λ i. p.0 i || prefix_free (c ∷ prefix) rest p.1 i
 
 -- ---- texts
 
@@ -178,7 +178,7 @@ each_piece (suc n) (c ∷ cs) s h k l =
     let free : holds_c1 (prefix ++ encode_utf8_all f.rest) ≡ false = ap holds_c1 whole ∙ h in
     let plain = printed_parts prefix (encode_utf8_all f.rest) (subst IsPrinted (sym whole) k) in
     subst (λ (ps : List (List ℕ)). AreSpelledRuns (map encode_utf8_all ps)) (sym f.cut) (
-      record { spelled = record { utf8 = (c ∷ f.remaining, (p.0, refl)); no_c1 = front_free prefix (encode_utf8_all f.rest) free }; printed = plain.0 },
+      record { spelled = record { utf8 = (c ∷ f.remaining, (p.0, refl)); no_c1 = prefix_free prefix (encode_utf8_all f.rest) free }; printed = plain.0 },
       each_piece n f.rest p.1 (no_c1_after prefix (encode_utf8_all f.rest) free) plain.1 (omega (arith, ap length f.whole, length-append f.remaining f.rest)),
     )
 

@@ -18,7 +18,7 @@ use Rattle.cell_base.specs.declared.color.ColorSpec.{ColorSpec}
 use Rattle.cell_base.specs.declared.color.ColorSpec.TheVariants as spec
 use Rattle.cell_base.specs.Attributes.{Attributes}
 use Rattle.csi_codec.specs.Parameters.{word_max}
-use Rattle.csi_codec.specs.Slots.{IsPlace}
+use Rattle.csi_codec.specs.Slots.{IsCoordinate}
 use Rattle.csi_codec.specs.Writable.{IsColour, IsWritableCursor, IsWritableSgr}
 use Rattle.csi_codec.specs.declared.cursors.Cursor.{Cursor}
 use Rattle.csi_codec.specs.declared.cursors.Cursor.TheVariants as cursor
@@ -26,7 +26,7 @@ use Rattle.csi_codec.specs.declared.rendition.Sgr.{Sgr}
 use Rattle.csi_codec.specs.declared.rendition.Sgr.TheVariants as sgr
 use Rattle.terminal_render.specs.Carried.{IsColor}
 use Rattle.terminal_render.specs.Pen.{colour_setting, unless_normal, unless_none, unless_steady, unless_off, unless_base_line, unless_default, settings}
-use Rattle.terminal_render.specs.Places.{Way, At, Back, On, way_of, move_by, moves}
+use Rattle.terminal_render.specs.Positions.{Way, At, Back, On, way_of, move_by, moves}
 
 -- a setting, if there is one
 abbrev pub IsSet : Option Sgr → Type 0
@@ -114,7 +114,7 @@ pub moves_append : (xs ys : List Cursor) → AreMoves xs → AreMoves ys → Are
 moves_append [] ys h k = k
 moves_append (x ∷ xs) ys h k = (h.0, moves_append xs ys h.1 k)
 
-pub by_is : (move : ℕ → Cursor) (count : ℕ) → ((n : ℕ) → IsPlace n → IsWritableCursor (move n)) → AreMoves (move_by move count)
+pub by_is : (move : ℕ → Cursor) (count : ℕ) → ((n : ℕ) → IsCoordinate n → IsWritableCursor (move n)) → AreMoves (move_by move count)
 by_is move count w = by_test (count == 0) refl
   where
     by_test : (b : Bool) → (count == 0) ≡ b → AreMoves (move_by move count)
@@ -123,7 +123,7 @@ by_is move count w = by_test (count == 0) refl
 
 -- a way to a position that a parameter can hold
 abbrev pub IsNamed : Way → Type 0
-IsNamed (At place) = IsPlace place
+IsNamed (At coordinate) = IsCoordinate coordinate
 IsNamed (Back count) = ⊤
 IsNamed (On count) = ⊤
 

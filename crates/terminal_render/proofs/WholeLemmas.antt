@@ -28,7 +28,7 @@ use Rattle.terminal_render.specs.Rendering.{rendering}
 use Rattle.terminal_render.specs.Texts.{text_rendering, title_rendering}
 use Rattle.terminal_render.proofs.DoneLemmas.{on, text_does}
 use Rattle.terminal_render.proofs.PenLemmas.{pen_does}
-use Rattle.terminal_render.proofs.PlaceLemmas.{place_does}
+use Rattle.terminal_render.proofs.CoordinateLemmas.{coordinate_does}
 use Rattle.terminal_render.proofs.ScrollLemmas.{up_does, down_does}
 use Rattle.terminal_render.proofs.ClearLemmas.{line_does, screen_does, below_does}
 
@@ -112,14 +112,14 @@ module _ (f : List ℕ → ℕ) (saved : Option SavedCursor) (replies : List ℕ
       by_back e prefix k None b = tt
       by_back e prefix k (Some back) b = by_line e prefix back k b (colour_setting a.underline_color) refl
 
-      by_front : is_unsaid a ≡ false → (found : Option ColorSpec) → colour_setting a.foreground ≡ found
+      by_prefix : is_unsaid a ≡ false → (found : Option ColorSpec) → colour_setting a.foreground ≡ found
           → Makes (option_map (λ values. pen_actions values a.hyperlink) (option_and_then (λ prefix. option_and_then (λ back. option_map (λ line. settings a prefix back line) (colour_setting a.underline_color)) (colour_setting a.background)) found)) (with_pen a d.screen)
-      by_front e None k = tt
-      by_front e (Some prefix) k = by_back e prefix k (colour_setting a.background) refl
+      by_prefix e None k = tt
+      by_prefix e (Some prefix) k = by_back e prefix k (colour_setting a.background) refl
 
       by_test : (b : Bool) → is_unsaid a ≡ b → Makes (pen_rendering a) (effect f d (AllAttributes a)).screen
       by_test true e = rw e tt
-      by_test false e = rw e (by_front e (colour_setting a.foreground) refl)
+      by_test false e = rw e (by_prefix e (colour_setting a.foreground) refl)
 
   visibility_makes : (v : Visibility) → Makes (rendering (CursorVisibility v) d.screen.width (height d.screen)) (effect f d (CursorVisibility v)).screen
   unfolding function_of
@@ -134,7 +134,7 @@ module _ (f : List ℕ → ℕ) (saved : Option SavedCursor) (replies : List ℕ
   makes (ClearScreen color) h w a b = screen_does f saved replies stream d.screen color
   makes (ClearToEndOfLine color) h w a b = line_does f saved replies stream d.screen color
   makes (ClearToEndOfScreen color) h w a b = below_does f saved replies stream d.screen color h w
-  makes (CursorPosition x y) h w a b = place_does f saved replies stream d.screen h a b x y
+  makes (CursorPosition x y) h w a b = coordinate_does f saved replies stream d.screen h a b x y
   makes (CursorVisibility v) h w a b = visibility_makes v
   makes (ScrollRegionUp first size count) h w a b = up_does f saved replies stream d.screen size count first
   makes (ScrollRegionDown first size count) h w a b = down_does f saved replies stream d.screen size count first

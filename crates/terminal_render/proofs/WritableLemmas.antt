@@ -26,7 +26,7 @@ use Rattle.csi_codec.specs.Actions as codec
 use Rattle.csi_codec.specs.Actions.{spelling_of}
 use Rattle.csi_codec.specs.Fronts.{whole_front}
 use Rattle.csi_codec.specs.Writable as codec_writable
-use Rattle.csi_codec.specs.Slots.{IsPlace}
+use Rattle.csi_codec.specs.Slots.{IsCoordinate}
 use Rattle.csi_codec.specs.Writable.{IsColour, IsWritableSgr, WritableActionsReadBack, WritableTextsAreFronts}
 use Rattle.csi_codec.specs.declared.cursors.Cursor.{Cursor}
 use Rattle.csi_codec.specs.declared.cursors.Cursor.TheVariants as cursor
@@ -45,7 +45,7 @@ use Rattle.screen_effects.specs.Strokes.{TextPart, Control, Plain, text_parts}
 use Rattle.terminal_render.specs.Carried.{IsColor, HaveColors, HasColor, IsChange, RenderingsAreWritable}
 use Rattle.terminal_render.specs.Links.{is_plain_text, is_plain_param, has_plain_texts, reads_back, is_carried}
 use Rattle.terminal_render.specs.Pen.{colour_setting, rendition, link_action, attribute_action, unless_default, settings, set, pen_actions, is_output, is_unsaid, pen_rendering, plain_pen, clear_rendering}
-use Rattle.terminal_render.specs.Places.{way_of, is_past, moves, position_moves}
+use Rattle.terminal_render.specs.Positions.{way_of, is_past, moves, position_moves}
 use Rattle.terminal_render.specs.Rendering.{edited, moved, is_whole, scroll_rendering, visibility_mode, rendering}
 use Rattle.terminal_render.specs.Texts.{run_actions, part_actions, text_rendering, title_rendering}
 use Rattle.terminal_render.proofs.CharacterLemmas.{IsGood, AreGood, parts_good, printable_text}
@@ -220,14 +220,14 @@ module _ (back : WritableActionsReadBack) (fronts : WritableTextsAreFronts) wher
       by_rear e prefix f None r = tt
       by_rear e prefix f (Some rear) r = by_line e prefix rear f r (colour_setting a.underline_color) (color_is a.underline_color h.2)
 
-      by_front : is_unsaid a ≡ false → (found : Option ColorSpec) → IfSome found IsColour
+      by_prefix : is_unsaid a ≡ false → (found : Option ColorSpec) → IfSome found IsColour
           → Alone (option_map (λ values. pen_actions values a.hyperlink) (option_and_then (λ prefix. option_and_then (λ rear. option_map (λ line. settings a prefix rear line) (colour_setting a.underline_color)) (colour_setting a.background)) found))
-      by_front e None f = tt
-      by_front e (Some prefix) f = by_rear e prefix f (colour_setting a.background) (color_is a.background h.1)
+      by_prefix e None f = tt
+      by_prefix e (Some prefix) f = by_rear e prefix f (colour_setting a.background) (color_is a.background h.1)
 
       by_test : (b : Bool) → is_unsaid a ≡ b → Alone (pen_rendering a)
       by_test true e = rw e tt
-      by_test false e = rw e (by_front e (colour_setting a.foreground) (color_is a.foreground h.0))
+      by_test false e = rw e (by_prefix e (colour_setting a.foreground) (color_is a.foreground h.0))
 
   abbrev attribute_rendering : AttributeValue → Option (List StreamAction)
   attribute_rendering change = option_map (λ action. action ∷ []) (attribute_action change)
@@ -290,7 +290,7 @@ module _ (back : WritableActionsReadBack) (fronts : WritableTextsAreFronts) wher
 
   -- ---- scrolls
 
-  scroll_is : (scroll : ℕ → Edit) (height first size count : ℕ) → ((n : ℕ) → IsPlace n → codec_writable.IsWritableEdit (scroll n)) → 0 < height → height < 2 ^ 32 → Alone (scroll_rendering scroll height first size count)
+  scroll_is : (scroll : ℕ → Edit) (height first size count : ℕ) → ((n : ℕ) → IsCoordinate n → codec_writable.IsWritableEdit (scroll n)) → 0 < height → height < 2 ^ 32 → Alone (scroll_rendering scroll height first size count)
   unfolding scroll_rendering
   scroll_is scroll height first size count w h k = by_test (is_whole height first size) refl
     where

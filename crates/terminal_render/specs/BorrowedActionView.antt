@@ -1,4 +1,4 @@
--- The action that a lent one stands for.
+-- The action that a borrowed one represents.
 use Rattle.std.specs.Prelude.{List, map, option_map}
 use Rattle.csi_codec.specs.Actions as codec
 use Rattle.escape_osc.specs.Command.{set_window_title}
@@ -7,7 +7,7 @@ use Rattle.escape_stream.specs.StreamAction.{StreamAction, print_string, control
 use Rattle.terminal_render.specs.declared.borrowed_action.BorrowedAction.{BorrowedAction}
 use Rattle.terminal_render.specs.declared.borrowed_action.BorrowedAction.TheVariants as variant
 use Rattle.terminal_render.specs.Pen.{link_action}
-use Rattle.terminal_render.specs.PlacesView.{move_cursor}
+use Rattle.terminal_render.specs.PositionsView.{move_cursor}
 
 abbrev pub borrowed_value : BorrowedAction → StreamAction
 borrowed_value (variant.Setting value) = csi (codec.sgr value)

@@ -10,8 +10,8 @@ use Rattle.escape_stream.specs.StreamText.{stream_text}
 use Rattle.terminal_render.specs.Rendering.{rendering}
 use Rattle.terminal_render.specs.Sizes.{carried_size}
 
--- at most so many bytes are sent for a change: for a text twice its bytes, or one more than it has where it holds no C0
--- control and no DEL; for any other change 320 beside its title, or its link's parameters and URI
+-- the most bytes sent for a change: for a text twice its bytes, or one more than it has where it holds no C0 control
+-- and no DEL; for any other change 320 besides its title, or its link's parameters and URI
 abbrev pub encoded_size : ChangeValue → ℕ
 encoded_size (Text text) = if list_all (λ b. not (is_ascii_control b)) text then length text + 1 else 2 * length text
 encoded_size change = carried_size change + 320
@@ -32,7 +32,7 @@ IsShort width height change =
 abbrev pub AreShort : ℕ → ℕ → List ChangeValue → Type 0
 AreShort width height = AllByRecursion (IsShort width height)
 
--- what a byte of a text prints: itself; a C0 control or DEL a space, but for CR and LF, which print nothing
+-- what a byte of a text prints: itself; a C0 control or DEL a space, except CR and LF, which print nothing
 abbrev pub byte_printed : ℕ → List ℕ
 byte_printed byte =
     if is_ascii_control byte then (if byte == 13 || byte == 10 then [] else space)

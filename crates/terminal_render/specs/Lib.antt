@@ -1,8 +1,8 @@
 pub mod Links
 pub mod Texts
 pub mod Pen
-pub mod Places
-pub mod PlacesView
+pub mod Positions
+pub mod PositionsView
 pub mod Rendering
 pub mod Samples
 pub mod Effects

@@ -30,7 +30,7 @@ is_reading_of link (Err error) = false
 abbrev pub reads_back : Link → Bool
 reads_back link = is_reading_of link (link_reading (pieces 59 (link_text link)))
 
--- whether its URI, its keys and its values are such texts
+-- whether its URI, its keys and its values are plain texts
 abbrev pub is_plain_param : Param → Bool
 is_plain_param p = is_plain_text p.0 && is_plain_text p.1
 

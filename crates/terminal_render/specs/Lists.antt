@@ -13,7 +13,7 @@ use Rattle.terminal_table.specs.Meaning.{View, after}
 use Rattle.terminal_render.specs.Effects.{actions_done, with_text, IsReady}
 use Rattle.terminal_render.specs.Rendering.{rendering}
 
--- the actions of one change, and then those of the others; none where one of them has none
+-- the actions of the first change and then those of the rest; `None` where a change has none
 abbrev pub all_rendered : List ChangeValue → ℕ → ℕ → Option (List StreamAction)
 all_rendered [] width height = Some []
 all_rendered (change ∷ changes) width height =

@@ -19,7 +19,7 @@ use Rattle.csi_codec.specs.declared.modes.DecPrivateMode.TheVariants as private
 use Rattle.csi_codec.specs.declared.modes.DecPrivateModeCode.TheVariants as dec
 use Rattle.escape_stream.specs.StreamAction.{StreamAction, csi}
 use Rattle.terminal_render.specs.Pen.{attribute_action, pen_rendering, clear_rendering}
-use Rattle.terminal_render.specs.Places.{position_moves}
+use Rattle.terminal_render.specs.Positions.{position_moves}
 use Rattle.terminal_render.specs.Texts.{text_rendering, title_rendering}
 
 abbrev pub edited : Edit → StreamAction

@@ -33,8 +33,8 @@ IsSpelledColor (attribute.TrueColorWithDefaultFallback c) = (c.0 ≤ 255) × (c.
 IsSpelledColor (attribute.PaletteIndex index) = index ≤ 255
 IsSpelledColor attribute.Default = ⊤
 
--- attributes that SGR and OSC 8 set: of no row that goes on, of semantic type output, with a link that is carried and
--- such colours
+-- attributes that SGR and OSC 8 set: of no row that goes on, of semantic type output, with a link that OSC 8 carries
+-- and colours that SGR sets
 pub record IsSpelledPen (pen : Attributes) : Type 0 where
   pub unwrapped : pen.wrapped ≡ false
   pub output : pen.semantic_type ≡ Output
@@ -48,7 +48,7 @@ pub record IsSpelledText (text : List ℕ) : Type 0 where
   pub utf8 : IsUtf8 text
   pub no_c1 : holds_c1 text ≡ false
 
--- such a text without C0 controls and DEL
+-- a spelled text without C0 controls and DEL
 pub record IsSpelledRun (text : List ℕ) : Type 0 where
   pub spelled : IsSpelledText text
   pub printed : IsPrinted text
@@ -58,7 +58,7 @@ pub record IsSpelledTitle (title : List ℕ) : Type 0 where
   pub utf8 : IsUtf8 title
   pub plain : is_plain_text title ≡ true
 
--- each column has such a text and such attributes
+-- each column has a spelled text and spelled attributes
 abbrev pub IsSpelledRow : Row → Type 0
 IsSpelledRow [] = ⊤
 IsSpelledRow (Narrow text attributes ∷ row) = IsSpelledRun text × IsSpelledPen attributes × IsSpelledRow row
@@ -86,8 +86,8 @@ pub record IsSpelledView (view : View) : Type 0 where
 
 -- ---- what comes
 
--- an SGR that can be written, so that its colour is of bytes; a link that is carried; such a title; of every other
--- control function nothing
+-- an SGR that can be written, so that its colour is of bytes; a link that OSC 8 carries; a spelled title; any other
+-- control function
 abbrev pub IsSpelledFunction : ControlFunction → Type 0
 IsSpelledFunction (table.Rendition value) = IsWritableSgr value
 IsSpelledFunction (table.Hyperlink link) = is_carried link ≡ true
@@ -99,7 +99,7 @@ abbrev pub IsSpelledRequest : Option ControlFunction → Type 0
 IsSpelledRequest None = ⊤
 IsSpelledRequest (Some function) = IsSpelledFunction function
 
--- an action prints such a text, and asks for such a control function
+-- an action that prints a spelled text, and has a spelled control function or none
 abbrev pub IsSpelledEvent : Event → Type 0
 IsSpelledEvent (Act action) = IsSpelledText (printed action) × IsSpelledRequest (function_of action)
 IsSpelledEvent _ = ⊤
@@ -136,8 +136,8 @@ abbrev pub IsLinePart : ChangeValue → Type 0
 IsLinePart (Text text) = IsPrinted text ⊎ IsLineEnd text
 IsLinePart _ = ⊤
 
--- a change of the code (colours of bytes, texts in UTF-8), of a text only such a one, for which something can be sent
--- to a terminal of a width and a height
+-- a change of the code (colours of bytes, texts in UTF-8), a line part if it is a text, that has a rendering for a
+-- terminal of a width and a height
 pub record HasSpelling (width height : ℕ) (change : ChangeValue) : Type 0 where
   pub of_code : IsChange change
   pub part : IsLinePart change

@@ -7,7 +7,7 @@ ghost use Rattle.escape_stream.specs.StreamAction.{command, control, csi};
 ghost use Rattle.escape_stream.specs.StreamActionView.{value_of};
 ghost use Rattle.escape_stream.specs.StreamText.{stream_text};
 ghost use Rattle.terminal_render.specs.Pen.{link_action, set};
-ghost use Rattle.terminal_render.specs.PlacesView.{move_cursor};
+ghost use Rattle.terminal_render.specs.PositionsView.{move_cursor};
 ghost use Rattle.terminal_render.specs.Texts.{run_actions};
 
 use crate::borrowed_action::BorrowedAction;

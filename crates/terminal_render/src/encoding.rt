@@ -8,7 +8,7 @@ ghost use Rattle.terminal_render.specs.Rendering.{appended, edited, rendering, v
 
 use crate::actions::Actions;
 use crate::pen::{push_attribute, push_clear, push_clear_screen, push_pen};
-use crate::places::push_position;
+use crate::positions::push_position;
 use crate::texts::push_text;
 use cell_base::CursorVisibility;
 use csi_codec::{DecPrivateMode, DecPrivateModeCode, Edit, EraseInDisplay, EraseInLine, Mode};

@@ -53,8 +53,8 @@ pub fn scrolls()
     ensures past { sent 4 3 (ScrollRegionUp 3 1 0) ≡ None }
 {}
 
-/// Positions: a column at or past the width, a way back in the row, and one that moves nothing can't be
-/// told.
+/// Positions: a column at or past the width, a way back in the row, and one that moves nothing have no
+/// encoding.
 pub fn positions()
     ensures next_row { sent 4 3 (CursorPosition (Absolute 0) (Relative (pos 1)))
         ≡ Some (csi (codes "B") ++ csi (codes "1G")) }

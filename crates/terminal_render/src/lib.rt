@@ -6,6 +6,7 @@
 
 mod actions;
 mod borrowed_action;
+mod coordinate;
 mod encoding;
 mod error;
 pub mod examples;
@@ -13,13 +14,11 @@ pub mod laws;
 mod links;
 mod moves;
 mod pen;
-mod place;
-mod places;
+mod positions;
 mod rendering;
 pub mod sizes;
 pub mod spelling_laws;
 mod texts;
-mod values;
 
 pub use encoding::append_encodings;
 pub use error::RenderError;

@@ -1,15 +1,15 @@
 //! Moves of the cursor, with their numbers.
 ghost use Rattle.std.specs.Prelude.{◌≡◌};
-ghost use Rattle.terminal_render.specs.PlacesView.{move_cursor};
+ghost use Rattle.terminal_render.specs.PositionsView.{move_cursor};
 
-use crate::place::Place;
+use crate::coordinate::Coordinate;
 use csi_codec::{Cursor, OneBased};
 
-/// A move of the cursor: to a line and a column, to one of them, or by so many.
+/// A move of the cursor: to a line and a column, to one of them, or by a count.
 #[derive(Clone, Copy)]
 pub(crate) enum Move {
-    To(Place, Place),
-    ToColumn(Place),
+    To(Coordinate, Coordinate),
+    ToColumn(Coordinate),
     ToLine(u32),
     Up(u32),
     Down(u32),

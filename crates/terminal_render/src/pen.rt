@@ -1,10 +1,12 @@
 //! Attributes, pens and clears.
 ghost use Rattle.std.specs.Prelude.{◌≡◌, ◌≢◌, ◌++◌, ◌∷◌, [], OnOk, None, Some, if◌then◌else◌, is_some, option_map};
+ghost use Rattle.std.specs.Prelude.{IsTrue};
 ghost use Rattle.cell_base.specs.AttributeValueOf.{attribute_value};
 ghost use Rattle.csi_codec.specs.declared.cursors.Cursor.TheVariants as cursor;
 ghost use Rattle.csi_codec.specs.declared.edits.Edit.TheVariants as edit;
 ghost use Rattle.csi_codec.specs.declared.edits.EraseInDisplay.TheVariants as display;
 ghost use Rattle.csi_codec.specs.declared.rendition.Sgr.TheVariants as sgr;
+ghost use Rattle.terminal_render.specs.Carried.{HasColor, HaveColors, IsColor};
 ghost use Rattle.terminal_render.specs.Pen.{attribute_action, clear_rendering, colour_setting, is_unsaid, plain_pen};
 ghost use Rattle.terminal_render.specs.Pen.{pen_actions, pen_rendering, pen_settings, settings};
 ghost use Rattle.terminal_render.specs.Pen.{unless_base_line, unless_default, unless_none, unless_normal};
@@ -12,12 +14,12 @@ ghost use Rattle.terminal_render.specs.Pen.{unless_steady};
 ghost use Rattle.terminal_render.specs.Rendering.{appended, edited, moved};
 
 use crate::actions::Actions;
+use crate::coordinate::Coordinate;
 use crate::links::is_carried;
 use crate::moves::Move;
-use crate::place::Place;
 use cell_base::{
     AttributeChange, Blink, CellAttributes, ColorAttribute, ColorSpec, Hyperlink, Intensity,
-    SemanticType, Underline, VerticalAlign,
+    SemanticType, SrgbaTuple, Underline, VerticalAlign,
 };
 use csi_codec::{Edit, EraseInDisplay, Sgr};
 use std::alloc::AllocError;
@@ -25,17 +27,19 @@ use std::rc::Rc;
 
 /// Whether SGR sets a colour: any but one that falls back to the palette.
 pub(crate) fn color_has_encoding(color: ColorAttribute) -> bool
-    ensures { result ≡ is_some (colour_setting color) }
+    ensures encoding { result ≡ is_some (colour_setting color) }
+    ensures bytes { IsTrue result → IsColor color }
 {
     match color {
         ColorAttribute::TrueColorWithPaletteFallback(_, _) => false,
-        ColorAttribute::TrueColorWithDefaultFallback(_)
-        | ColorAttribute::PaletteIndex(_)
-        | ColorAttribute::Default => true,
+        ColorAttribute::TrueColorWithDefaultFallback(SrgbaTuple(_red, _green, _blue, _alpha)) =>
+            true,
+        ColorAttribute::PaletteIndex(_index) => true,
+        ColorAttribute::Default => true,
     }
 }
 
-// Such a colour as SGR sets it.
+// A colour that SGR can set, as its setting.
 fn color_setting(color: ColorAttribute) -> ColorSpec
     requires { colour_setting color ≢ None }
     ensures { colour_setting color ≡ Some result }
@@ -150,7 +154,8 @@ fn settings(
 /// Whether SGR and OSC 8 set the attributes.
 #[tactic(auto, unfolding(crate::specs::Pen::pen_rendering))]
 pub(crate) fn pen_has_encoding(a: &CellAttributes) -> bool
-    ensures { result ≡ is_some (pen_rendering a.now) }
+    ensures encoding { result ≡ is_some (pen_rendering a.now) }
+    ensures bytes { IsTrue result → HaveColors a.now }
 {
     !is_unsaid(a) && colors_have_encodings(a)
 }
@@ -167,7 +172,8 @@ fn is_unsaid(a: &CellAttributes) -> bool
 
 // Whether SGR sets each of their colours.
 fn colors_have_encodings(a: &CellAttributes) -> bool
-    ensures { result ≡ is_some (pen_settings a.now) }
+    ensures encoding { result ≡ is_some (pen_settings a.now) }
+    ensures bytes { IsTrue result → HaveColors a.now }
 {
     if !color_has_encoding(a.foreground()) {
         return false;
@@ -175,7 +181,7 @@ fn colors_have_encodings(a: &CellAttributes) -> bool
     color_has_encoding(a.background()) && color_has_encoding(a.underline_color())
 }
 
-// The settings of such attributes and of their colours.
+// The settings of attributes whose colours SGR can set, and of these colours.
 fn pen_settings(a: &CellAttributes) -> [Option<Sgr>; 12]
     requires { pen_settings a.now ≢ None }
     ensures { pen_settings a.now ≡ Some result }
@@ -186,7 +192,7 @@ fn pen_settings(a: &CellAttributes) -> [Option<Sgr>; 12]
     settings(a, prefix, back, line)
 }
 
-/// Such attributes: a reset, what is set after it, and the link or its end.
+/// Attributes that have an encoding: a reset, the settings after it, and the link or its end.
 #[tactic(auto, unfolding(crate::specs::Pen::pen_rendering))]
 pub(crate) fn push_pen<'a>(
     actions: &mut Actions<'a>,
@@ -217,7 +223,8 @@ fn push_settings<'a>(
 /// Whether SGR or OSC 8 sets one attribute.
 #[tactic(auto, unfolding(crate::specs::Pen::attribute_action))]
 pub(crate) fn attribute_has_encoding(change: &AttributeChange) -> bool
-    ensures { result ≡ is_some (attribute_action (attribute_value change.now)) }
+    ensures encoding { result ≡ is_some (attribute_action (attribute_value change.now)) }
+    ensures bytes { IsTrue result → HasColor (attribute_value change.now) }
 {
     match change {
         AttributeChange::Foreground(color) | AttributeChange::Background(color) => {
@@ -234,7 +241,7 @@ pub(crate) fn attribute_has_encoding(change: &AttributeChange) -> bool
     }
 }
 
-/// Such an attribute: its SGR, or OSC 8.
+/// An attribute that has an encoding: its SGR, or OSC 8.
 #[tactic(auto, unfolding(crate::specs::Pen::attribute_action))]
 pub(crate) fn push_attribute<'a>(
     actions: &mut Actions<'a>,
@@ -300,5 +307,5 @@ pub(crate) fn push_clear_screen(
 {
     push_plain_pen(actions, color_setting(color))?;
     actions.push_edit(Edit::EraseInDisplay(EraseInDisplay::EraseDisplay))?;
-    actions.push_move(Move::To(Place::new(1), Place::new(1)))
+    actions.push_move(Move::To(Coordinate::new(1), Coordinate::new(1)))
 }

@@ -1,8 +1,9 @@
 //! What is sent for a change, if anything can be.
-ghost use Rattle.std.specs.Prelude.{◌≡◌, ◌↔◌, ◌<◌, ◌^◌, ◌&&◌, map, is_some, None, Some, IfOk, IsErrOf};
+ghost use Rattle.std.specs.Prelude.{◌≡◌, ◌↔◌, ◌<◌, ◌^◌, ◌&&◌, map, is_some, None, Some, IfOk, IsErrOf, IsTrue};
 ghost use Rattle.screen_change.specs.ValueOf.{value_of as change_value};
 ghost use Rattle.escape_stream.specs.StreamActionView.{value_of};
 ghost use Rattle.escape_stream.specs.StreamWritable.{IsWritable};
+ghost use Rattle.terminal_render.specs.Carried.{IsChange};
 ghost use Rattle.terminal_render.specs.Rendering.{is_whole, rendering};
 
 use crate::actions::Actions;
@@ -10,8 +11,7 @@ use crate::encoding::push_change;
 use crate::error::RenderError;
 use crate::links::is_plain_text;
 use crate::pen::{attribute_has_encoding, color_has_encoding, pen_has_encoding};
-use crate::places::position_has_encoding;
-use crate::values::change_is;
+use crate::positions::position_has_encoding;
 use escape_stream::Action;
 use screen_change::Change;
 use std::alloc::Global;
@@ -28,10 +28,12 @@ fn is_whole(height: usize, first_row: usize, region_size: usize) -> bool
 /// that does to its screen what the change does.
 #[tactic(auto, unfolding(crate::specs::Pen::clear_rendering, crate::specs::Rendering::scroll_rendering, crate::specs::Texts::text_rendering, crate::specs::Texts::title_rendering))]
 pub fn has_encoding(change: &Change, width: usize, height: usize) -> bool
-    ensures { result ≡ is_some (rendering (change_value change.now) width height) }
+    ensures encoding { result ≡ is_some (rendering (change_value change.now) width height) }
+    // (colours are of bytes, and texts are UTF-8)
+    ensures change { IsTrue result → IsChange (change_value change.now) }
 {
     match change {
-        Change::Text(text) => !holds_c1(text.as_bytes()),
+        Change::Text(text) => !holds_c1(text.as_str().as_bytes()),
         Change::Title(title) => is_plain_text(title.as_str()),
         Change::Attribute(change) => attribute_has_encoding(change),
         Change::AllAttributes(pen) => pen_has_encoding(pen),
@@ -80,7 +82,6 @@ pub fn render(
     ensures none { IsErrOf result RenderError.NoSpelling ↔ (rendering (change_value change.now) width height ≡ None) }
     ensures writable { IfOk result (λ actions. IsWritable (map value_of actions.items)) }
 {
-    change_is(change);
     if !has_encoding(change, width, height) {
         return Err(RenderError::NoSpelling);
     }

@@ -30,8 +30,8 @@ pub fn spelled_pens_are_rendered()
     ensures { (pen : Attributes) → HaveColors pen → (IsSpelledPen pen ↔ (pen_rendering pen ≢ None)) }
 {}
 
-/// The cells, the pen and the title of a display have a spelling: those of a new one, and those that
-/// changes which bring such, and other sizes, leave of such a display.
+/// The cells, the pen and the title of a new display have a spelling, and a display keeps this under changes
+/// that have it themselves, and under other sizes.
 pub fn displays_stay_spelled()
     ensures new { (width : ℕ) (height : ℕ) → IsSpelledScreen (new_display width height).screen }
     ensures effect { (width_of : List ℕ → ℕ) (display : Display) (change : ChangeValue) → IsDisplay display
@@ -41,15 +41,15 @@ pub fn displays_stay_spelled()
         → IsSpelledScreen (resized width height display).screen }
 {}
 
-/// The cells, pens and titles of a terminal, and the run that it holds, have a spelling: those of a new
-/// one, and those that events leave which bring such.
+/// The cells, pens and titles of a new terminal, and the run that it holds, have a spelling, and a terminal
+/// keeps this under events that have it themselves.
 pub fn views_stay_spelled()
     ensures new { (width : ℕ) (height : ℕ) → IsSpelledView (new_view width height) }
     ensures event { (width_of : List ℕ → ℕ) (view : View) (event : Event) → IsView view → IsEvent event
         → IsSpelledView view → IsSpelledEvent event → IsSpelledView (event_done width_of view event) }
 {}
 
-/// Each change that is logged for such an event has a spelling at the size of the screen before it.
+/// Each change that a terminal logs for an event with a spelling has one at the size of the screen before it.
 pub fn logged_changes_have_spellings()
     ensures { (width_of : List ℕ → ℕ) (view : View) (event : Event) → IsView view → IsSpelledView view
         → IsSpelledEvent event
@@ -93,7 +93,7 @@ pub fn kept_changes_have_spellings()
     one_cut();
 }
 
-/// So there is something that is sent for such changes in turn.
+/// So changes that have spellings have a rendering in turn.
 pub fn spelled_changes_are_rendered()
     ensures { (width : ℕ) (height : ℕ) (changes : List ChangeValue) → HaveSpellings width height changes
         → all_rendered changes width height ≢ None }

@@ -27,7 +27,7 @@ use Rattle.escape_stream.specs.declared.perform.Halted.TheVariants as halted
 use Rattle.terminal_steps.specs.Refusals.{of_halted}
 use Rattle.terminal_steps.specs.Items.{item_event, item_events, DoesItem, RefusesItem}
 use Rattle.terminal_steps.specs.declared.error.TerminalError.TheVariants.{Failed, Number}
-use Rattle.terminal_steps.proofs.TakeLemmas.{are_front, are_after, leads}
+use Rattle.terminal_steps.proofs.TakeLemmas.{are_prefix, are_after, leads}
 use Rattle.terminal_steps.specs.TerminalStates.{state_of}
 use Rattle.terminal_steps.specs.Events.{view_of, IsReady, Had, NeedsNumber, final_log}
 use Rattle.terminal_steps.specs.declared.state.TerminalState.{TerminalState}
@@ -61,14 +61,14 @@ module _ {W : Type 0} (width_of : W → List ℕ → ℕ) where
 
   -- ---- what is logged for one event after others
 
-  after_front : (t : TerminalState W) (prefix back : List LogStep) → fold step_of_kept t.surface.log ((prefix ++ back) ++ []) ≡ fold step_of_kept (fold step_of_kept t.surface.log (prefix ++ [])) back
-  after_front t prefix back =
+  after_prefix : (t : TerminalState W) (prefix back : List LogStep) → fold step_of_kept t.surface.log ((prefix ++ back) ++ []) ≡ fold step_of_kept (fold step_of_kept t.surface.log (prefix ++ [])) back
+  after_prefix t prefix back =
       ap (fold step_of_kept t.surface.log) (append_nil (prefix ++ back))
       ∙ fold-append step_of_kept t.surface.log prefix back
       ∙ ap (λ xs. fold step_of_kept (fold step_of_kept t.surface.log xs) back) (sym (append_nil prefix))
 
   resized_after : (t : TerminalState W) (width height : ℕ) → final_log width_of t (Resized width height ∷ []) ≡ step_of_kept (final_log width_of t (Looked ∷ [])) (log.Resized (most_due width height))
-  resized_after t width height = after_front t (run_logged (view_of t)) (log.Resized (most_due width height) ∷ [])
+  resized_after t width height = after_prefix t (run_logged (view_of t)) (log.Resized (most_due width height) ∷ [])
 
   -- ---- other sizes
 
@@ -116,7 +116,7 @@ module _ {W : Type 0} (width_of : W → List ℕ → ℕ) where
   pub stopped_had : (t before : TerminalState W) (done left : List Item) (item : Item) (items : List Item) → items ≡ done ++ (item ∷ left) → FoldsTo (DoesItem width_of) t done before
       → IsReady t → AreEvents (item_events items) → Had width_of t before (item_events done)
   stopped_had t before done left item items e f ready events =
-      leads width_of t before done f ready (are_front (item_events done) (item_event item ∷ item_events left) (subst AreEvents (stopped_all done left item items e) events))
+      leads width_of t before done f ready (are_prefix (item_events done) (item_event item ∷ item_events left) (subst AreEvents (stopped_all done left item items e) events))
 
   stopped_number : (t last : TerminalState W) (items : List Item) → StopsAt (DoesItem width_of) (RefusesItem width_of) t items refusal.Number last → NeedsNumber width_of t (item_events items)
   stopped_number t last items s = λ ready events.

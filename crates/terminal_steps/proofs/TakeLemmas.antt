@@ -13,9 +13,9 @@ use Rattle.terminal_steps.specs.Events.{view_of, Had, IsReady}
 use Rattle.terminal_steps.specs.Items.{item_event, item_events, DoesItem, Leads}
 use Rattle.terminal_steps.specs.declared.state.TerminalState.{TerminalState}
 
-pub are_front : (xs ys : List Event) → AreEvents (xs ++ ys) → AreEvents xs
-are_front [] ys h = tt
-are_front (x ∷ xs) ys h = (h.0, are_front xs ys h.1)
+pub are_prefix : (xs ys : List Event) → AreEvents (xs ++ ys) → AreEvents xs
+are_prefix [] ys h = tt
+are_prefix (x ∷ xs) ys h = (h.0, are_prefix xs ys h.1)
 
 pub are_after : (xs ys : List Event) → AreEvents (xs ++ ys) → AreEvents ys
 are_after [] ys h = h

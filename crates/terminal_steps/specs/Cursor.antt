@@ -3,10 +3,10 @@ use Rattle.cell_base.specs.declared.attributes.Position.TheVariants.{Absolute}
 use Rattle.screen_change.specs.ChangeValue.{AllAttributes, ChangeValue, ClearToEndOfLine, CursorPosition}
 use Rattle.terminal_steps.specs.declared.cursor.LineEnd.{LineEnd}
 use Rattle.terminal_steps.specs.declared.cursor.Pen.{Pen}
-use Rattle.terminal_steps.specs.declared.cursor.Place.{Place}
+use Rattle.terminal_steps.specs.declared.cursor.CellPosition.{CellPosition}
 
-abbrev pub place_change : Place → ChangeValue
-place_change place = CursorPosition (Absolute place.column) (Absolute place.row)
+abbrev pub position_change : CellPosition → ChangeValue
+position_change destination = CursorPosition (Absolute destination.column) (Absolute destination.row)
 
 abbrev pub pen_change : Pen → ChangeValue
 pen_change pen = AllAttributes pen.attributes

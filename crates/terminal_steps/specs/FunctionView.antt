@@ -1,4 +1,4 @@
--- What the code's control functions stand for.
+-- The control functions of the table that the code's represent.
 use Rattle.std.specs.Prelude.{Option, option_map}
 use Rattle.std.specs.String.{string_bytes}
 use Rattle.terminal_table.specs.Functions as table
@@ -17,7 +17,7 @@ move_of (move.NextLine n) = table.NextLine n
 move_of (move.PrecedingLine n) = table.PrecedingLine n
 move_of (move.ToColumn column) = table.ToColumn column
 move_of (move.ToLine line) = table.ToLine line
-move_of (move.ToPlace line column) = table.ToPlace line column
+move_of (move.ToPosition line column) = table.ToPosition line column
 
 abbrev pub table_function : ControlFunction → table.ControlFunction
 table_function (code.Moves movement) = table.Moves (move_of movement)

@@ -1,4 +1,4 @@
--- The refusals of what a terminal stands on, as its own.
+-- The refusals of a surface and of a parser's call, as those of a terminal.
 use Rattle.cell_surface.specs.declared.error.SurfaceError.{SurfaceError}
 use Rattle.cell_surface.specs.declared.error.SurfaceError.TheVariants as surface
 use Rattle.escape_stream.specs.declared.perform.Halted.{Halted}

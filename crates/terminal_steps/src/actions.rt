@@ -109,8 +109,8 @@ fn perform<W: Widths + Drop>(
 /// or a saved one forgotten, and a reply follows those that there are. An action for which the
 /// terminal has no control function, as a print, does nothing.
 ///
-/// Refusals are those of the surface, and want of memory for what is copied, for a saved cursor or for a reply; a
-/// change that has no number is refused before its text or its pen is copied. One leaves what was done so far.
+/// Refuses as the surface does, and for want of memory for a copy, a saved cursor or a reply; it refuses a change that
+/// has no number before it copies its text or its pen. A refusal leaves the changes done so far.
 pub fn apply<W: Widths + Drop>(
     surface: &mut Surface<W>,
     saved: &mut Option<SavedCursor>,
@@ -150,8 +150,8 @@ pub fn apply<W: Widths + Drop>(
     }
 }
 
-/// A run of printed characters: one change, which puts each of their clusters at the cursor. Refusals are those of the
-/// surface.
+/// A run of printed characters: one change, which puts each of their clusters at the cursor. Refuses as the surface
+/// does.
 pub fn print<W: Widths + Drop>(surface: &mut Surface<W>, text: String) -> Result<(), SurfaceError>
     ensures added { IfOk result
         (λ _. AddsAll (λ w. W.width_of w) surface.old surface.new (run_change (string_bytes text) ∷ [])) }

@@ -6,9 +6,9 @@ ghost use Rattle.cell_base.specs.AttributeValueOf.{attribute_value};
 ghost use Rattle.screen_change.specs.ChangeValue.{Attribute, Text};
 ghost use Rattle.screen_change.specs.ValueOf.{value_of};
 ghost use Rattle.terminal_steps.specs.Additions.{Adds, CopiesAndAdds};
-ghost use Rattle.terminal_steps.specs.Cursor.{line_end_change, pen_change, place_change};
+ghost use Rattle.terminal_steps.specs.Cursor.{line_end_change, pen_change, position_change};
 
-use crate::cursor::{LineEnd, Pen, Place};
+use crate::cursor::{CellPosition, LineEnd, Pen};
 use cell_base::{AttributeChange, Widths};
 use cell_surface::{Surface, SurfaceError};
 use screen_change::Change;
@@ -88,13 +88,13 @@ pub(crate) fn add_pen<W: Widths + Drop>(
 }
 
 // A position for the cursor.
-pub(crate) fn add_place<W: Widths + Drop>(
+pub(crate) fn add_position<W: Widths + Drop>(
     surface: &mut Surface<W>,
-    place: Place,
+    destination: CellPosition,
 ) -> Result<(), SurfaceError>
-    ensures { Adds (λ w. W.width_of w) surface.old (place_change place ∷ []) result surface.new }
+    ensures { Adds (λ w. W.width_of w) surface.old (position_change destination ∷ []) result surface.new }
 {
-    surface.add_change(place)?;
+    surface.add_change(destination)?;
     Ok(())
 }
 
@@ -112,12 +112,13 @@ pub(crate) fn add_line_end<W: Widths + Drop>(
 // A position for the cursor, and all attributes of the pen.
 pub(crate) fn add_cursor<W: Widths + Drop>(
     surface: &mut Surface<W>,
-    place: Place,
+    destination: CellPosition,
     pen: Pen,
 ) -> Result<(), SurfaceError>
-    ensures { Adds (λ w. W.width_of w) surface.old (place_change place ∷ pen_change pen ∷ []) result surface.new }
+    ensures { Adds (λ w. W.width_of w) surface.old (position_change destination ∷ pen_change pen ∷ []) result
+        surface.new }
 {
-    add_place(surface, place)?;
+    add_position(surface, destination)?;
     add_pen(surface, pen)?;
     Ok(())
 }
@@ -130,7 +131,7 @@ pub(crate) fn add_text<W: Widths + Drop>(
 ) -> Result<(), SurfaceError>
     ensures { CopiesAndAdds (λ w. W.width_of w) surface.old (Text text.now ∷ []) result surface.new }
 {
-    let mut copy = surface.spare_text();
+    let mut copy = surface.pooled_text();
     copy.push_str(text)?;
     add_run(surface, copy)
 }

@@ -59,7 +59,7 @@ fn of_cursor(cursor: Cursor) -> Option<ControlFunction>
         }
         Cursor::LinePositionAbsolute(line) => Move::ToLine(line),
         Cursor::Position { line, col } | Cursor::CharacterAndLinePosition { line, col } => {
-            Move::ToPlace(line.as_one_based(), col.as_one_based())
+            Move::ToPosition(line.as_one_based(), col.as_one_based())
         }
         Cursor::SaveCursor => return Some(ControlFunction::SaveCursor),
         Cursor::RestoreCursor => return Some(ControlFunction::RestoreCursor),

@@ -7,22 +7,22 @@ use screen_change::Change;
 
 /// A column and a row, counted from 0, to which the cursor goes.
 #[derive(Clone, Copy)]
-pub(crate) struct Place {
+pub(crate) struct CellPosition {
     pub(crate) column: usize,
     pub(crate) row: usize,
 }
 
-impl From<Place> for Change {
+impl From<CellPosition> for Change {
     ghost use Rattle.std.specs.Prelude.{◌≡◌};
     ghost use Rattle.screen_change.specs.ValueOf.{value_of};
-    ghost use Rattle.terminal_steps.specs.Cursor.{place_change};
+    ghost use Rattle.terminal_steps.specs.Cursor.{position_change};
 
-    ghost from_gives = { λ place change. value_of change ≡ place_change place };
+    ghost from_gives = { λ destination change. value_of change ≡ position_change destination };
 
-    fn from(place: Place) -> Change {
+    fn from(destination: CellPosition) -> Change {
         Change::CursorPosition {
-            x: Position::Absolute(place.column),
-            y: Position::Absolute(place.row),
+            x: Position::Absolute(destination.column),
+            y: Position::Absolute(destination.row),
         }
     }
 }

@@ -5,11 +5,11 @@ ghost use Rattle.terminal_table.specs.Changes.{changes, move_change, position};
 ghost use Rattle.terminal_table.specs.Functions as table;
 ghost use Rattle.terminal_table.specs.Steps.{active_column, target};
 ghost use Rattle.terminal_steps.specs.Additions.{Adds};
-ghost use Rattle.terminal_steps.specs.Cursor.{place_change};
+ghost use Rattle.terminal_steps.specs.Cursor.{position_change};
 ghost use Rattle.terminal_steps.specs.FunctionView.{move_of};
 
-use crate::changes::add_place;
-use crate::cursor::Place;
+use crate::changes::add_position;
+use crate::cursor::CellPosition;
 use crate::function::Move;
 use cell_base::Widths;
 use cell_surface::{Surface, SurfaceError};
@@ -28,18 +28,18 @@ pub(crate) fn position_at<W: Widths + Drop>(
     surface: &Surface<W>,
     column: usize,
     row: usize,
-) -> Place
-    ensures { place_change result ≡ position (column, row) (shown_by surface.now).screen }
+) -> CellPosition
+    ensures { position_change result ≡ position (column, row) (shown_by surface.now).screen }
 {
     let (width, height) = surface.dimensions();
-    Place {
+    CellPosition {
         column: column.min(width.saturating_sub(1)),
         row: row.min(height.saturating_sub(1)),
     }
 }
 
 // Where a move leads from a column and a row: at most to the last ones.
-fn place_of(
+fn position_of(
     movement: Move,
     column: usize,
     row: usize,
@@ -59,7 +59,7 @@ fn place_of(
         Move::PrecedingLine(n) => (0, row.saturating_sub(n as usize)),
         Move::ToColumn(name) => ((name as usize).saturating_sub(1), row),
         Move::ToLine(name) => (column, (name as usize).saturating_sub(1)),
-        Move::ToPlace(line, name) => (
+        Move::ToPosition(line, name) => (
             (name as usize).saturating_sub(1),
             (line as usize).saturating_sub(1),
         ),
@@ -68,19 +68,19 @@ fn place_of(
 }
 
 /// Where a move leads.
-pub(crate) fn move_place<W: Widths + Drop>(surface: &Surface<W>, movement: Move) -> Place
-    ensures { place_change result ≡ move_change (move_of movement) (shown_by surface.now).screen }
+pub(crate) fn move_position<W: Widths + Drop>(surface: &Surface<W>, movement: Move) -> CellPosition
+    ensures { position_change result ≡ move_change (move_of movement) (shown_by surface.now).screen }
 {
     let (width, height) = surface.dimensions();
     let (_, row) = surface.cursor_position();
-    let (column, row) = place_of(
+    let (column, row) = position_of(
         movement,
         current_column(surface),
         row,
         width.saturating_sub(1),
         height.saturating_sub(1),
     );
-    Place { column, row }
+    CellPosition { column, row }
 }
 
 /// A move of the cursor.
@@ -91,6 +91,6 @@ pub(crate) fn move_cursor<W: Widths + Drop>(
     ensures { Adds (λ w. W.width_of w) surface.old
         (changes (table.Moves (move_of movement)) None (shown_by surface.old).screen) result surface.new }
 {
-    let place = move_place(surface, movement);
-    add_place(surface, place)
+    let destination = move_position(surface, movement);
+    add_position(surface, destination)
 }

@@ -2,14 +2,14 @@
 ghost use Rattle.std.specs.Prelude.{◌≡◌, None, IfOk, [], ◌∷◌};
 ghost use Rattle.screen_change.specs.ValueOf.{value_of};
 ghost use Rattle.cell_surface.specs.Surface.{shown_by};
-ghost use Rattle.terminal_table.specs.Changes.{changes, same_place};
+ghost use Rattle.terminal_table.specs.Changes.{changes, same_position};
 ghost use Rattle.terminal_table.specs.Functions as table;
 ghost use Rattle.terminal_steps.specs.Additions.{Adds, CopiesAndAdds};
-ghost use Rattle.terminal_steps.specs.Cursor.{place_change};
+ghost use Rattle.terminal_steps.specs.Cursor.{position_change};
 
-use crate::changes::{add, add_cursor, add_line_end, add_pen, add_place};
-use crate::cursor::{Pen, Place};
-use crate::cursor_moves::{current_column, move_place, position_at};
+use crate::changes::{add, add_cursor, add_line_end, add_pen, add_position};
+use crate::cursor::{CellPosition, Pen};
+use crate::cursor_moves::{current_column, move_position, position_at};
 use crate::function::Move;
 use cell_base::Widths;
 use cell_surface::{Surface, SurfaceError};
@@ -52,8 +52,8 @@ pub(crate) fn erase_to_end_of_display<W: Widths + Drop>(
 }
 
 // Where the cursor is; no wrap is pending there.
-fn same_place<W: Widths + Drop>(surface: &Surface<W>) -> Place
-    ensures { place_change result ≡ same_place (shown_by surface.now).screen }
+fn same_position<W: Widths + Drop>(surface: &Surface<W>) -> CellPosition
+    ensures { position_change result ≡ same_position (shown_by surface.now).screen }
 {
     let (_, row) = surface.cursor_position();
     position_at(surface, current_column(surface), row)
@@ -65,7 +65,7 @@ pub(crate) fn erase_display<W: Widths + Drop>(surface: &mut Surface<W>) -> Resul
         (changes table.EraseDisplay None (shown_by surface.old).screen) result surface.new }
 {
     let pen = current_pen(surface)?;
-    let here = same_place(surface);
+    let here = same_position(surface);
     add(surface, Change::ClearScreen(pen.background()))?;
     add_cursor(surface, here, pen)?;
     Ok(())
@@ -79,10 +79,10 @@ pub(crate) fn erase_line<W: Widths + Drop>(surface: &mut Surface<W>) -> Result<(
     let pen = current_pen(surface)?;
     let (_, row) = surface.cursor_position();
     let start = position_at(surface, 0, row);
-    let place = same_place(surface);
-    add_place(surface, start)?;
+    let destination = same_position(surface);
+    add_position(surface, start)?;
     add_line_end(surface, pen.line_end())?;
-    add_cursor(surface, place, pen)?;
+    add_cursor(surface, destination, pen)?;
     Ok(())
 }
 
@@ -139,7 +139,7 @@ fn reverse_change<W: Widths + Drop>(surface: &Surface<W>) -> Change
             scroll_count: 1,
         }
     } else {
-        Change::from(move_place(surface, Move::Up(1)))
+        Change::from(move_position(surface, Move::Up(1)))
     }
 }
 

@@ -16,13 +16,13 @@ pub(crate) enum Move {
     Right(u32),
     /// To the next column that 8 divides.
     NextTab,
-    /// To the first column of a row so many below.
+    /// To the first column of the row that is this many rows below.
     NextLine(u32),
     PrecedingLine(u32),
     ToColumn(u32),
     ToLine(u32),
     /// To a line and a column.
-    ToPlace(u32, u32),
+    ToPosition(u32, u32),
 }
 
 #[derive(Drop)]

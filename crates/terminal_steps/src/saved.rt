@@ -85,8 +85,8 @@ pub(crate) fn restore_cursor<W: Widths + Drop>(
         (changes table.RestoreCursor saved.now (shown_by surface.old).screen) result surface.new }
 {
     let SavedCursor { column, row, pen } = cursor_to_restore(saved)?;
-    let place = position_at(surface, column, row);
-    add_cursor(surface, place, Pen { attributes: pen })
+    let destination = position_at(surface, column, row);
+    add_cursor(surface, destination, Pen { attributes: pen })
 }
 
 /// A full reset, which leaves the title alone, and forgets the saved cursor.

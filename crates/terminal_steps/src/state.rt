@@ -91,14 +91,14 @@ impl<W: Widths + Drop> TerminalState<W> {
         if self.held.is_empty() {
             return Ok(());
         }
-        let next = self.surface.spare_text();
+        let next = self.surface.pooled_text();
         let text = mem::replace(&mut self.held, next);
         print(&mut self.surface, text)?;
         Ok(())
     }
 
-    /// Becomes so many columns wide and rows high, each from 1 to 2^32 - 1. The run ends before; a saved cursor
-    /// stays as it is. Refusals are those of the surface.
+    /// Becomes `width` columns wide and `height` rows high, each from 1 to 2^32 - 1. The run ends before; a saved
+    /// cursor stays as it is. Refuses as the surface does.
     pub fn resize(&mut self, width: usize, height: usize) -> Result<(), SurfaceError>
         requires width { (0 < width) × (width < 2 ^ 32) }
         requires height { (0 < height) × (height < 2 ^ 32) }

@@ -4,8 +4,8 @@ use cell_base::Widths;
 use cell_surface::SurfaceError;
 use escape_stream::{Action, Perform};
 
-// A text joins the run, and so does a print; every other action ends it. Refusals are those of the surface, and want of
-// memory; then nothing is said of what is kept.
+// A text joins the run, and so does a print; every other action ends it. Refuses as the surface does, and for want of
+// memory; then the clauses leave the state open.
 impl<'t, W: Widths + Drop> Perform<'t> for TerminalState<W> {
     ghost use Rattle.std.specs.Prelude.{⊤};
     ghost use Rattle.terminal_steps.specs.Items.{DoesItem, RefusesItem};

@@ -61,12 +61,12 @@ text_most test text false attributes at = let own = one_most (test (visible_at a
 
 pub passing-append : (test : VisibleCell → Bool) (at : ℕ) (a b : Row) → passing test at (a ++ b) ≡ passing test at a + passing test (at + length a) b
 passing-append test at [] b =
-    let place : at ≡ at + 0 = omega arith in
-    let same : passing test at b ≡ passing test (at + 0) b = ap (λ n. passing test n b) place in
+    let position : at ≡ at + 0 = omega arith in
+    let same : passing test at b ≡ passing test (at + 0) b = ap (λ n. passing test n b) position in
     omega arith
 passing-append test at (x ∷ a) b =
-    let place : at + 1 + length a ≡ at + suc (length a) = omega arith in
-    let same : passing test (at + 1 + length a) b ≡ passing test (at + suc (length a)) b = ap (λ n. passing test n b) place in
+    let position : at + 1 + length a ≡ at + suc (length a) = omega arith in
+    let same : passing test (at + 1 + length a) b ≡ passing test (at + suc (length a)) b = ap (λ n. passing test n b) position in
     let rest = passing-append test (at + 1) a b in
     omega arith
 
@@ -82,13 +82,13 @@ starts_grow test at (x ∷ row) = let first = column_most test at (right_alone x
 
 after_few : (test : VisibleCell → Bool) (n at : ℕ) (row : Row) → passing test (at + n) (drop n row) ≤ passing test at row
 after_few test zero at row =
-    let place : at + 0 ≡ at = omega arith in
-    let same : passing test (at + 0) row ≡ passing test at row = ap (λ n. passing test n row) place in
+    let position : at + 0 ≡ at = omega arith in
+    let same : passing test (at + 0) row ≡ passing test at row = ap (λ n. passing test n row) position in
     omega arith
 after_few test (suc n) at [] = omega arith
 after_few test (suc n) at (x ∷ row) =
-    let place : at + 1 + n ≡ at + suc n = omega arith in
-    let same : passing test (at + 1 + n) (drop n row) ≡ passing test (at + suc n) (drop n row) = ap (λ k. passing test k (drop n row)) place in
+    let position : at + 1 + n ≡ at + suc n = omega arith in
+    let same : passing test (at + 1 + n) (drop n row) ≡ passing test (at + suc n) (drop n row) = ap (λ k. passing test k (drop n row)) position in
     let rest = after_few test n (at + 1) row in
     omega arith
 
@@ -98,8 +98,8 @@ parts_few test zero m at row h = let after = after_few test m at row in omega ar
 parts_few test (suc k) zero at row h = absurd (omega arith)
 parts_few test (suc k) (suc m) at [] h = omega arith
 parts_few test (suc k) (suc m) at (x ∷ row) h =
-    let place : at + 1 + m ≡ at + suc m = omega arith in
-    let same : passing test (at + 1 + m) (drop m row) ≡ passing test (at + suc m) (drop m row) = ap (λ n. passing test n (drop m row)) place in
+    let position : at + 1 + m ≡ at + suc m = omega arith in
+    let same : passing test (at + 1 + m) (drop m row) ≡ passing test (at + suc m) (drop m row) = ap (λ n. passing test n (drop m row)) position in
     let rest = parts_few test k m (at + 1) row (omega arith) in
     omega arith
 
@@ -110,7 +110,7 @@ set_grows : (test : VisibleCell → Bool) (row : Row) (k : ℕ) (columns : Row) 
     → ((at : ℕ) → passing test at (closed_end (take k row)) ≤ passing test at (take k row) + more)
     → ((at : ℕ) → passing test at (closed_start (drop (k + length columns) row)) ≤ passing test at (drop (k + length columns) row) + more)
     → passing test 0 (set_columns row k columns) ≤ passing test 0 row + (more + more + 1)
-set_grows test row k columns more own front_grows back_grows = elim (cases_lt (length row) k) [ inl after ↦ outside after | inr within ↦ inside within ]
+set_grows test row k columns more own prefix_grows back_grows = elim (cases_lt (length row) k) [ inl after ↦ outside after | inr within ↦ inside within ]
   where
     m : ℕ
     m = k + length columns
@@ -133,9 +133,9 @@ set_grows test row k columns more own front_grows back_grows = elim (cases_lt (l
     inside : k ≤ length row → passing test 0 (set_columns row k columns) ≤ passing test 0 row + (more + more + 1)
     inside h =
         let count : length prefix ≡ k = length-closed_end (take k row) ∙ length-take-le k row h in
-        let place : 0 + length (prefix ++ columns) ≡ 0 + m = omega (arith, length-append prefix columns) in
-        let same : passing test (0 + length (prefix ++ columns)) back ≡ passing test (0 + m) back = ap (λ n. passing test n back) place in
-        let before = front_grows 0 in
+        let position : 0 + length (prefix ++ columns) ≡ 0 + m = omega (arith, length-append prefix columns) in
+        let same : passing test (0 + length (prefix ++ columns)) back ≡ passing test (0 + m) back = ap (λ n. passing test n back) position in
+        let before = prefix_grows 0 in
         let between = own (0 + length prefix) in
         let after = back_grows (0 + m) in
         omega (arith, parts, kept)
@@ -144,7 +144,7 @@ set_grows test row k columns more own front_grows back_grows = elim (cases_lt (l
     outside h =
         let none : drop m row ≡ [] = drop_all m row (omega arith) in
         let same : passing test (0 + length (prefix ++ columns)) back ≡ 0 = ap (λ (r : Row). passing test (0 + length (prefix ++ columns)) (closed_start r)) none in
-        let before = front_grows 0 in
+        let before = prefix_grows 0 in
         let between = own (0 + length prefix) in
         omega (arith, parts, kept)
 

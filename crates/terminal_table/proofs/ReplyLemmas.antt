@@ -38,23 +38,23 @@ reply_after FullReset taken replies screen = refl
 reply_after ReportStatus taken replies screen = append_assoc taken replies status_reply
 reply_after ReportPosition taken replies screen = append_assoc taken replies (position_reply screen)
 
-abbrev with_front : List ℕ → State → State
-with_front taken state = record state { replies = taken ++ state.replies }
+abbrev with_prefix : List ℕ → State → State
+with_prefix taken state = record state { replies = taken ++ state.replies }
 
 module _ (width_of : List ℕ → ℕ) (taken : List ℕ) where
   settled_with : (v : View) → settled width_of (with_taken taken v) ≡ with_taken taken (settled width_of v)
   settled_with v = by_test (length v.held == 0)
     where
-      by_test : (b : Bool) → record v { state = if b then with_front taken v.state else run_step width_of v.held (with_front taken v.state); held = [] }
-          ≡ record v { state = with_front taken (if b then v.state else run_step width_of v.held v.state); held = [] }
+      by_test : (b : Bool) → record v { state = if b then with_prefix taken v.state else run_step width_of v.held (with_prefix taken v.state); held = [] }
+          ≡ record v { state = with_prefix taken (if b then v.state else run_step width_of v.held v.state); held = [] }
       by_test true = refl
       by_test false = refl
 
-  step_with : (request : Option ControlFunction) (state : State) → step_of request (with_front taken state) ≡ with_front taken (step_of request state)
+  step_with : (request : Option ControlFunction) (state : State) → step_of request (with_prefix taken state) ≡ with_prefix taken (step_of request state)
   step_with None state = refl
   step_with (Some function) state = λ i. record (step function state) { replies = reply_after function taken state.replies state.screen i }
 
-  changes_with : (request : Option ControlFunction) (state : State) → changes_of request (with_front taken state) ≡ changes_of request state
+  changes_with : (request : Option ControlFunction) (state : State) → changes_of request (with_prefix taken state) ≡ changes_of request state
   changes_with None state = refl
   changes_with (Some function) state = refl
 
@@ -96,16 +96,16 @@ module _ (width_of : List ℕ → ℕ) (taken : List ℕ) where
 together : (v : View) → with_taken v.state.replies (without_replies v) ≡ v
 together v = λ i. record v { state = record v.state { replies = append-nil v.state.replies i } }
 
-pub after_apart : (width_of : List ℕ → ℕ) (v : View) (history : History) → after width_of v history ≡ with_taken v.state.replies (after width_of (without_replies v) history)
-after_apart width_of v history = ap (λ x. after width_of x history) (sym (together v)) ∙ after_with width_of v.state.replies (without_replies v) history
+pub after_separate : (width_of : List ℕ → ℕ) (v : View) (history : History) → after width_of v history ≡ with_taken v.state.replies (after width_of (without_replies v) history)
+after_separate width_of v history = ap (λ x. after width_of x history) (sym (together v)) ∙ after_with width_of v.state.replies (without_replies v) history
 
-pub logged_apart : (width_of : List ℕ → ℕ) (v : View) (history : History) → logged width_of (without_replies v) history ≡ logged width_of v history
-logged_apart width_of v history = sym (logged_with_taken width_of v.state.replies (without_replies v) history) ∙ ap (λ x. logged width_of x history) (together v)
+pub logged_separate : (width_of : List ℕ → ℕ) (v : View) (history : History) → logged width_of (without_replies v) history ≡ logged width_of v history
+logged_separate width_of v history = sym (logged_with_taken width_of v.state.replies (without_replies v) history) ∙ ap (λ x. logged width_of x history) (together v)
 
 -- ---- what ends no run
 
-pub forgets_apart : (width_of : List ℕ → ℕ) (v : View) (first second : History) (number : ℕ) → after width_of v (first ++ (Forget number ∷ second)) ≡ after width_of v (first ++ second)
-forgets_apart width_of v first second number = after_joins width_of v first (Forget number ∷ second) ∙ sym (after_joins width_of v first second)
+pub forgets_separate : (width_of : List ℕ → ℕ) (v : View) (first second : History) (number : ℕ) → after width_of v (first ++ (Forget number ∷ second)) ≡ after width_of v (first ++ second)
+forgets_separate width_of v first second number = after_joins width_of v first (Forget number ∷ second) ∙ sym (after_joins width_of v first second)
 
 pub nothing_decided : (width_of : List ℕ → ℕ) (v : View) (bytes : List ℕ) → newly_decided_actions v.stream bytes ≡ [] → after width_of v (Piece bytes ∷ []) ≡ with_stream (v.stream ++ bytes) v
 nothing_decided width_of v bytes none =

@@ -16,14 +16,14 @@ use Rattle.csi_codec.specs.declared.rendition.Sgr.{Sgr}
 use Rattle.csi_codec.specs.declared.rendition.Sgr.TheVariants as sgr
 use Rattle.screen_effects.specs.Display.{Display, IsDisplay}
 use Rattle.screen_effects.specs.Effect.{blank_row, cleared_after, scrolled_up, scrolled_down, effect, replay}
-use Rattle.screen_effects.specs.Positions.{place, column_place}
+use Rattle.screen_effects.specs.Positions.{resolved, resolved_column}
 use Rattle.screen_effects.specs.Regions.{moved_up, moved_down, in_region}
 use Rattle.screen_effects.specs.Strokes.{Stroke, CarriageReturn as return_stroke, LineFeed as feed_stroke, stroke_done, scrolls}
 use Rattle.terminal_table.specs.State.{SavedCursor, State}
 use Rattle.terminal_table.specs.Functions as table
 use Rattle.terminal_table.specs.Functions.{Move, ControlFunction}
-use Rattle.terminal_table.specs.Steps.{active_column, target, at_place, reverse_index, erased_after, end_of_line_erased, rows_below_erased, line_erased, display_erased, with_rendition, on_pen, with_cursor, cursor_to_restore, reset_screen, screen_step, step_of}
-use Rattle.terminal_table.specs.Changes.{position, same_place, rendition_changes, cursor_changes, changes, changes_of, visibility}
+use Rattle.terminal_table.specs.Steps.{active_column, target, at_position, reverse_index, erased_after, end_of_line_erased, rows_below_erased, line_erased, display_erased, with_rendition, on_pen, with_cursor, cursor_to_restore, reset_screen, screen_step, step_of}
+use Rattle.terminal_table.specs.Changes.{position, same_position, rendition_changes, cursor_changes, changes, changes_of, visibility}
 use Rattle.terminal_table.specs.Turns.{AreSingle, Turns}
 use Rattle.terminal_table.proofs.ListLemmas.{drop_past, append_nil, whole_region, take_set, map_same}
 
@@ -34,29 +34,29 @@ screen_turns d new shown e = record { screen = e; shape = refl; sizes = λ h. h 
 -- ---- positions
 
 -- a position within the screen is the one that is named
-column_within : (width from at : ℕ) → 0 < width → column_place width from (Absolute (min at (width - 1))) ≡ min at (width - 1)
+column_within : (width from at : ℕ) → 0 < width → resolved_column width from (Absolute (min at (width - 1))) ≡ min at (width - 1)
 column_within width from at h = by_test (min at (width - 1) == width) refl
   where
-    by_test : (b : Bool) → (min at (width - 1) == width) ≡ b → column_place width from (Absolute (min at (width - 1))) ≡ min at (width - 1)
+    by_test : (b : Bool) → (min at (width - 1) == width) ≡ b → resolved_column width from (Absolute (min at (width - 1))) ≡ min at (width - 1)
     by_test true e = absurd (grind (arith, nat_tests))
     by_test false e = rw e (omega arith)
 
-row_within : (size from at : ℕ) → place size from (Absolute (min at (size - 1))) ≡ min at (size - 1)
+row_within : (size from at : ℕ) → resolved size from (Absolute (min at (size - 1))) ≡ min at (size - 1)
 row_within size from at = omega arith
 
 -- a position on a screen, as it was computed on one of the same size
 pub positioned : (width_of : List ℕ → ℕ) (d : Display) (at : ℕ × ℕ) (other : Screen) → 0 < d.screen.width → other.width ≡ d.screen.width → height other ≡ height d.screen
-    → (effect width_of d (position at other)) ≡ record d { screen = at_place at d.screen }
+    → (effect width_of d (position at other)) ≡ record d { screen = at_position at d.screen }
 positioned width_of d at other h w t = λ i. record d { screen = record d.screen { column = columns i; row = rows i } }
   where
-    columns : column_place d.screen.width d.screen.column (Absolute (min at.0 (other.width - 1))) ≡ min at.0 (d.screen.width - 1)
-    columns = ap (λ n. column_place d.screen.width d.screen.column (Absolute (min at.0 (n - 1)))) w ∙ column_within d.screen.width d.screen.column at.0 h
+    columns : resolved_column d.screen.width d.screen.column (Absolute (min at.0 (other.width - 1))) ≡ min at.0 (d.screen.width - 1)
+    columns = ap (λ n. resolved_column d.screen.width d.screen.column (Absolute (min at.0 (n - 1)))) w ∙ column_within d.screen.width d.screen.column at.0 h
 
-    rows : place (height d.screen) d.screen.row (Absolute (min at.1 (height other - 1))) ≡ min at.1 (height d.screen - 1)
-    rows = ap (λ n. place (height d.screen) d.screen.row (Absolute (min at.1 (n - 1)))) t ∙ row_within (height d.screen) d.screen.row at.1
+    rows : resolved (height d.screen) d.screen.row (Absolute (min at.1 (height other - 1))) ≡ min at.1 (height d.screen - 1)
+    rows = ap (λ n. resolved (height d.screen) d.screen.row (Absolute (min at.1 (n - 1)))) t ∙ row_within (height d.screen) d.screen.row at.1
 
-position_turns : (width_of : List ℕ → ℕ) (d : Display) (at : ℕ × ℕ) → IsDisplay d → Turns d (effect width_of d (position at d.screen)) (at_place at d.screen)
-position_turns width_of d at h = subst (λ x. Turns d x (at_place at d.screen)) (sym (positioned width_of d at d.screen h.lawful.wide_enough refl refl)) (screen_turns d (at_place at d.screen) (at_place at d.screen) refl)
+position_turns : (width_of : List ℕ → ℕ) (d : Display) (at : ℕ × ℕ) → IsDisplay d → Turns d (effect width_of d (position at d.screen)) (at_position at d.screen)
+position_turns width_of d at h = subst (λ x. Turns d x (at_position at d.screen)) (sym (positioned width_of d at d.screen h.lawful.wide_enough refl refl)) (screen_turns d (at_position at d.screen) (at_position at d.screen) refl)
 
 -- ---- line feeds and returns
 
@@ -152,7 +152,7 @@ display_end_turns width_of saved d h =
     ∙ ap (λ rows. record s { rows = rows }) (rows_below s (erased_after s.column s.pen.background (get_or s.rows s.row [])) h.lawful.row_in))
 
 -- the position where the cursor was, on a screen of the same size: no wrap is pending there
-same_row : (s other : Screen) → IsScreen s → other.width ≡ s.width → height other ≡ height s → at_place (active_column s, s.row) other ≡ record other { column = active_column s; row = s.row }
+same_row : (s other : Screen) → IsScreen s → other.width ≡ s.width → height other ≡ height s → at_position (active_column s, s.row) other ≡ record other { column = active_column s; row = s.row }
 same_row s other h w t = λ i. record other { column = columns i; row = rows i }
   where
     columns : min (active_column s) (other.width - 1) ≡ active_column s
@@ -163,7 +163,7 @@ same_row s other h w t = λ i. record other { column = columns i; row = rows i }
 
 -- a display that goes back to where the cursor was, with the pen that it had
 back : (width_of : List ℕ → ℕ) (d : Display) (s : Screen) → IsScreen s → d.screen.width ≡ s.width → height d.screen ≡ height s
-    → replay width_of d (same_place s ∷ AllAttributes s.pen ∷ []) ≡ record d { screen = record d.screen { column = active_column s; row = s.row; pen = s.pen } }
+    → replay width_of d (same_position s ∷ AllAttributes s.pen ∷ []) ≡ record d { screen = record d.screen { column = active_column s; row = s.row; pen = s.pen } }
 back width_of d s h w t =
     ap (λ x. effect width_of x (AllAttributes s.pen)) (positioned width_of d (active_column s, s.row) s (let g = h.wide_enough in omega arith) (sym w) (sym t))
     ∙ ap (λ x. record d { screen = record x { pen = s.pen } }) (same_row s d.screen h w t)
@@ -182,7 +182,7 @@ line_turns width_of saved d h = subst (λ x. Turns d x (line_erased s)) (sym (be
     s = d.screen
 
     remaining : List ChangeValue
-    remaining = ClearToEndOfLine s.pen.background ∷ same_place s ∷ AllAttributes s.pen ∷ []
+    remaining = ClearToEndOfLine s.pen.background ∷ same_position s ∷ AllAttributes s.pen ∷ []
 
     first : Display
     first = record d { screen = record s { column = 0 } }
@@ -207,7 +207,7 @@ line_turns width_of saved d h = subst (λ x. Turns d x (line_erased s)) (sym (be
 
     gone : replay width_of first remaining ≡ record d { screen = line_erased s }
     gone =
-        ap (λ row. replay width_of (record d { screen = record s { column = 0; rows = set s.rows s.row row; pen = blank_of s.pen.background } }) (same_place s ∷ AllAttributes s.pen ∷ [])) blanks
+        ap (λ row. replay width_of (record d { screen = record s { column = 0; rows = set s.rows s.row row; pen = blank_of s.pen.background } }) (same_position s ∷ AllAttributes s.pen ∷ [])) blanks
         ∙ back width_of cleared s h.lawful refl (length-set {A = Row} s.rows s.row (blank_row s.width s.pen.background))
 
 -- ---- the pen

@@ -1,5 +1,4 @@
--- One action by itself: its text is fed where nothing is unfinished and no run is held, and then the screen is looked
--- at.
+-- One action by itself: a view with nothing unfinished and no held run takes its text, and then a look.
 use Rattle.std.specs.Prelude.{◌≡◌, ℕ, List, [], ◌∷◌, map, if◌then◌else◌}
 use Rattle.screen_log.specs.LogSteps.{LogStep, Logged}
 use Rattle.escape_framing.specs.Held.{held_of, nothing_held}

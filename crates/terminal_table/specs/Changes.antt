@@ -23,18 +23,18 @@ use Rattle.terminal_table.specs.Steps.{active_column, target, with_rendition, cu
 
 -- a position at a column and a row, or at the last ones
 abbrev pub position : ℕ × ℕ → Screen → ChangeValue
-position place screen =
-    CursorPosition (Absolute (min place.0 (screen.width - 1))) (Absolute (min place.1 (height screen - 1)))
+position at screen =
+    CursorPosition (Absolute (min at.0 (screen.width - 1))) (Absolute (min at.1 (height screen - 1)))
 
 -- where a move leads
 abbrev pub move_change : Move → Screen → ChangeValue
 move_change move screen = position (target move (active_column screen) screen.row) screen
 
 -- where the cursor is; no wrap is pending there
-abbrev pub same_place : Screen → ChangeValue
-same_place screen = position (active_column screen, screen.row) screen
+abbrev pub same_position : Screen → ChangeValue
+same_position screen = position (active_column screen, screen.row) screen
 
--- what has no change of its own is said by all attributes of the new pen
+-- a setting without a change of its own gives a change of all attributes, those of the new pen
 abbrev pub rendition_changes : Sgr → Attributes → List ChangeValue
 rendition_changes (sgr.Intensity value) pen = Attribute (attribute.Intensity value) ∷ []
 rendition_changes (sgr.Underline value) pen = Attribute (attribute.Underline value) ∷ []
@@ -69,10 +69,10 @@ changes ReverseIndex saved screen =
     (if screen.row == 0 then ScrollRegionDown 0 (height screen) 1 else move_change (Up 1) screen) ∷ []
 changes EraseToEndOfDisplay saved screen = ClearToEndOfScreen screen.pen.background ∷ AllAttributes screen.pen ∷ []
 changes EraseDisplay saved screen =
-    ClearScreen screen.pen.background ∷ same_place screen ∷ AllAttributes screen.pen ∷ []
+    ClearScreen screen.pen.background ∷ same_position screen ∷ AllAttributes screen.pen ∷ []
 changes EraseToEndOfLine saved screen = ClearToEndOfLine screen.pen.background ∷ AllAttributes screen.pen ∷ []
 changes EraseLine saved screen =
-    position (0, screen.row) screen ∷ ClearToEndOfLine screen.pen.background ∷ same_place screen
+    position (0, screen.row) screen ∷ ClearToEndOfLine screen.pen.background ∷ same_position screen
     ∷ AllAttributes screen.pen ∷ []
 changes (ScrollUp n) saved screen = ScrollRegionUp 0 (height screen) (min n (height screen)) ∷ []
 changes (ScrollDown n) saved screen = ScrollRegionDown 0 (height screen) (min n (height screen)) ∷ []

@@ -27,20 +27,20 @@ use Rattle.escape_stream.specs.StreamAction as stream
 
 -- Where a move of the cursor leads. Lines and columns that are named count from 1.
 pub data Move : Type 0 where
-  -- so many rows or columns from where the cursor is
+  -- by a count of rows or columns from the cursor
   Up : ℕ → Move
   Down : ℕ → Move
   Left : ℕ → Move
   Right : ℕ → Move
   -- to the next column that 8 divides
   NextTab : Move
-  -- to the first column of a row so many below, or above
+  -- to the first column of the row that is a count of rows below, or above
   NextLine : ℕ → Move
   PrecedingLine : ℕ → Move
   -- to a column, to a line, or to both: the line first
   ToColumn : ℕ → Move
   ToLine : ℕ → Move
-  ToPlace : ℕ → ℕ → Move
+  ToPosition : ℕ → ℕ → Move
 
 pub data ControlFunction : Type 0 where
   Moves : Move → ControlFunction
@@ -102,8 +102,8 @@ cursor_function (cursor.PrecedingLine n) = Some (Moves (PrecedingLine n))  -- CP
 cursor_function (cursor.CharacterAbsolute column) = Some (Moves (ToColumn column))  -- CHA, 8.3.9
 cursor_function (cursor.CharacterPositionAbsolute column) = Some (Moves (ToColumn column))  -- HPA, 8.3.57
 cursor_function (cursor.LinePositionAbsolute line) = Some (Moves (ToLine line))  -- VPA, 8.3.158
-cursor_function (cursor.Position line column) = Some (Moves (ToPlace line column))  -- CUP, 8.3.21
-cursor_function (cursor.CharacterAndLinePosition line column) = Some (Moves (ToPlace line column))  -- HVP, 8.3.63
+cursor_function (cursor.Position line column) = Some (Moves (ToPosition line column))  -- CUP, 8.3.21
+cursor_function (cursor.CharacterAndLinePosition line column) = Some (Moves (ToPosition line column))  -- HVP, 8.3.63
 cursor_function cursor.SaveCursor = Some SaveCursor  -- SCOSC, xterm
 cursor_function cursor.RestoreCursor = Some RestoreCursor  -- SCORC, xterm
 cursor_function cursor.RequestActivePositionReport = Some ReportPosition  -- DSR 6, 8.3.35

@@ -3,8 +3,8 @@ use Rattle.std.specs.Prelude.{ℕ, List, [], ◌∷◌, ◌++◌, map}
 use Rattle.escape_stream.specs.StreamAction.{StreamAction}
 use Rattle.escape_stream.specs.StreamActions.{newly_decided_actions}
 
--- a piece of the stream is fed, the screen is looked at, its size becomes another width and height, or the log forgets
--- the changes before a number
+-- the terminal reads a chunk of the stream, takes a look at the screen or takes on a width and height, or its log
+-- forgets the changes before a number
 pub data Step : Type 0 where
   Piece : List ℕ → Step
   Look : Step
@@ -14,7 +14,7 @@ pub data Step : Type 0 where
 abbrev pub History : Type 0
 History = List Step
 
--- the bytes that are fed, joined
+-- the bytes that the terminal reads, joined
 abbrev pub pieces : History → List ℕ
 pieces [] = []
 pieces (Piece bytes ∷ history) = bytes ++ pieces history
@@ -29,8 +29,8 @@ pub data Event : Type 0 where
   Resized : ℕ → ℕ → Event
   Forgot : ℕ → Event
 
--- The events of a history that goes on after a stream. An action comes as soon as so many bytes have come that every
--- continuation has it, so a look or another size follows all that the bytes before it decide.
+-- The events of a history that goes on after a stream. An action comes as soon as the bytes so far decide it, so that
+-- every continuation has it; a look or another size follows all actions that the bytes before it decide.
 abbrev pub events : List ℕ → History → List Event
 events stream [] = []
 events stream (Piece bytes ∷ history) = map Act (newly_decided_actions stream bytes) ++ events (stream ++ bytes) history

@@ -13,7 +13,8 @@ use Rattle.screen_effects.specs.Effect.{blank_row}
 use Rattle.screen_effects.specs.Regions.{moved_up, moved_down}
 use Rattle.terminal_table.specs.State.{SavedCursor, State, cursor_of, home_cursor}
 use Rattle.terminal_table.specs.Functions.{Move, Up, Down, Left, Right, NextTab, NextLine, PrecedingLine, ToColumn}
-use Rattle.terminal_table.specs.Functions.{ToLine, ToPlace, ControlFunction, Moves, LineFeed, CarriageReturn, NextRow}
+use Rattle.terminal_table.specs.Functions.{ToLine, ToPosition, ControlFunction, Moves, LineFeed, CarriageReturn}
+use Rattle.terminal_table.specs.Functions.{NextRow}
 use Rattle.terminal_table.specs.Functions.{ReverseIndex, EraseToEndOfDisplay, EraseDisplay, EraseToEndOfLine, EraseLine}
 use Rattle.terminal_table.specs.Functions.{ScrollUp, ScrollDown, Rendition, Hyperlink, Title, ShowCursor, SaveCursor}
 use Rattle.terminal_table.specs.Functions.{RestoreCursor, FullReset, ReportStatus, ReportPosition}
@@ -35,14 +36,14 @@ target (NextLine n) column row = (0, row + n)
 target (PrecedingLine n) column row = (0, row - n)
 target (ToColumn name) column row = (name - 1, row)
 target (ToLine name) column row = (column, name - 1)
-target (ToPlace line name) column row = (name - 1, line - 1)
+target (ToPosition line name) column row = (name - 1, line - 1)
 
 -- the cursor at a column and a row, or at the last ones; so no wrap is pending
-abbrev pub at_place : ℕ × ℕ → Screen → Screen
-at_place place screen = record screen { column = min place.0 (screen.width - 1); row = min place.1 (height screen - 1) }
+abbrev pub at_position : ℕ × ℕ → Screen → Screen
+at_position at screen = record screen { column = min at.0 (screen.width - 1); row = min at.1 (height screen - 1) }
 
 abbrev pub moved : Move → Screen → Screen
-moved move screen = at_place (target move (active_column screen) screen.row) screen
+moved move screen = at_position (target move (active_column screen) screen.row) screen
 
 -- the row before; on the first row all rows move down, and the column is kept, also where a wrap is pending
 abbrev pub reverse_index : Screen → Screen
@@ -113,14 +114,14 @@ on_pen change screen = record screen { pen = change screen.pen }
 
 -- a saved cursor and its pen; it is kept within the screen, so no wrap is pending
 abbrev pub with_cursor : SavedCursor → Screen → Screen
-with_cursor cursor screen = record (at_place (cursor.column, cursor.row) screen) { pen = cursor.pen }
+with_cursor cursor screen = record (at_position (cursor.column, cursor.row) screen) { pen = cursor.pen }
 
 -- the cursor that a restore brings back: home and a plain pen where none was saved
 abbrev pub cursor_to_restore : Option SavedCursor → SavedCursor
 cursor_to_restore None = home_cursor
 cursor_to_restore (Some cursor) = cursor
 
--- a new screen, but for its title
+-- a new screen, except for its title, which stays
 abbrev pub reset_screen : Screen → Screen
 reset_screen screen = record (new_screen screen.width (height screen)) { title = screen.title }
 

@@ -112,7 +112,7 @@ pub fn histories_join()
 
 /// Taking the replies changes nothing else, then and later: what goes on from there shows, saves, holds and logs the
 /// same, and has the same new replies, which follow those that were taken.
-pub fn replies_stand_apart()
+pub fn replies_are_separate()
     ensures after { (width_of : List ℕ → ℕ) (view : View) (history : History)
         → after width_of view history ≡ with_taken view.state.replies (after width_of (without_replies view) history) }
     ensures logged { (width_of : List ℕ → ℕ) (view : View) (history : History)

@@ -30,7 +30,7 @@ use Rattle.terminal_table.proofs.TextLemmas.{with_text}
 -- ---- actions that print nothing and leave rows as they are
 
 pub record IsQuiet (a : StreamAction) : Type 0 where
-  pub apart : is_print a ≡ false
+  pub separate : is_print a ≡ false
   pub rows : (state : State) → (step_of (function_of a) state).screen.rows ≡ state.screen.rows
   pub still : (state : State) → request_scrolls (function_of a) state.screen ≡ false
 
@@ -43,8 +43,8 @@ quiet_append (x ∷ xs) ys p q = (p.0, quiet_append xs ys p.1 q)
 
 rendition_quiet : (value : Sgr) → IsQuiet (rendition value)
 unfolding function_of
-rendition_quiet (sgr.Font font) = record { apart = refl; rows = λ state. refl; still = λ state. refl }
-rendition_quiet _ = record { apart = refl; rows = λ state. refl; still = λ state. refl }
+rendition_quiet (sgr.Font font) = record { separate = refl; rows = λ state. refl; still = λ state. refl }
+rendition_quiet _ = record { separate = refl; rows = λ state. refl; still = λ state. refl }
 
 pub settings_quiet : (values : List (Option Sgr)) → AreQuiet (flat_map set values)
 settings_quiet [] = tt
@@ -56,7 +56,7 @@ reset_quiet = rendition_quiet sgr.Reset
 
 terminator_quiet : IsQuiet string_terminator
 unfolding function_of
-terminator_quiet = record { apart = refl; rows = λ state. refl; still = λ state. refl }
+terminator_quiet = record { separate = refl; rows = λ state. refl; still = λ state. refl }
 
 -- ---- the texts of actions
 
@@ -108,14 +108,14 @@ module _ (f : List ℕ → ℕ) where
 
   quiet_prints : (v : View) (a : StreamAction) → v.held ≡ [] → IsQuiet a → event_prints f v (Act a) ≡ []
   quiet_prints v a e q =
-      ap (λ b. if not b then strokes_print f v.state.screen (map Cluster (clusters v.held)) else []) q.apart
+      ap (λ b. if not b then strokes_print f v.state.screen (map Cluster (clusters v.held)) else []) q.separate
       ∙ (λ i. strokes_print f v.state.screen (map Cluster (clusters (e i))))
       ∙ ap (λ (ts : List (List ℕ)). strokes_print f v.state.screen (map Cluster ts)) no_clusters
 
   quiet_plain : (v : View) (a : StreamAction) → v.held ≡ [] → IsQuiet a → IsPlainEvent f v (Act a)
   quiet_plain v a e q = record {
     rows = subst (λ b. (if b then record v { held = v.held ++ printed_by } else record (settled f v) { state = step_of (function_of a) (settled f v).state }).state.screen.rows ≡ (if not b then settled f v else v).state.screen.rows)
-        (sym q.apart) (q.rows (settled f v).state);
+        (sym q.separate) (q.rows (settled f v).state);
     still = q.still (run_ended f v (Act a)).state;
     run = λ _. (λ i. strokes_scroll f v.state.screen (map Cluster (clusters (e i)))) ∙ ap (λ (ts : List (List ℕ)). strokes_scroll f v.state.screen (map Cluster ts)) no_clusters;
   }
@@ -124,7 +124,7 @@ module _ (f : List ℕ → ℕ) where
       printed_by = action.printed a
 
   quiet_held : (v : View) (a : StreamAction) → IsQuiet a → (event_done f v (Act a)).held ≡ []
-  quiet_held v a q = ap (λ b. (if b then record v { held = v.held ++ action.printed a } else record (settled f v) { state = step_of (function_of a) (settled f v).state }).held) q.apart
+  quiet_held v a q = ap (λ b. (if b then record v { held = v.held ++ action.printed a } else record (settled f v) { state = step_of (function_of a) (settled f v).state }).held) q.separate
 
   -- ---- what is sent
 
@@ -151,7 +151,7 @@ module _ (f : List ℕ → ℕ) where
       record {
         prints = (λ i. quiet_prints v a e q.0 i ++ rest.prints i);
         plain = (quiet_plain v a e q.0, rest.plain);
-        utf8 = (quiet_text a q.0.apart, rest.utf8);
+        utf8 = (quiet_text a q.0.separate, rest.utf8);
       }
 
   -- a text that is printed, and NUL

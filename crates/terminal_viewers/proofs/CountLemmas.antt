@@ -17,7 +17,7 @@ use Rattle.cell_base.specs.Screen.{Screen, IsScreen, height}
 use Rattle.screen_change.specs.CellChanges.{attributes_due, cells_written, clear_due, runs_written}
 use Rattle.screen_change.specs.CellRuns.{CellRun, background_at_end, before_runs, cell_runs, is_blank_of, less_blanks}
 use Rattle.screen_change.specs.ChangeValue.{ChangeValue, AllAttributes, CursorPosition, Text}
-use Rattle.screen_change.specs.Texts.{stay_apart, texts}
+use Rattle.screen_change.specs.Texts.{stay_independent, texts}
 use Rattle.cell_base.specs.UpToLast.{up_to_last}
 use Rattle.screen_change.proofs.TextLemmas.{by_test}
 use Rattle.cell_edits.specs.VisibleCells.{VisibleCell, contents, visible_from}
@@ -26,14 +26,14 @@ use Rattle.screen_log.specs.LogSteps.{Sized}
 use Rattle.screen_effects.specs.Effect.{cursor_row}
 use Rattle.screen_repaint.specs.Repaint.{cursor_shown, end_cleared, go_with_blanks, in_next_row, pen_left, row_cells, row_painted, rows_painted}
 use Rattle.terminal_viewers.specs.Update.{due_or, last_cell, painted_anew, as_sent, update_changes, written_again}
-use Rattle.terminal_viewers.proofs.PaintLemmas.{due_of, front_of, painted_rows, place_of, sent_here, sent_is, sent_there}
+use Rattle.terminal_viewers.proofs.PaintLemmas.{due_of, prefix_of, painted_rows, position_of, sent_here, sent_is, sent_there}
 
 -- ---- runs of cells
 
 texts_count : (cells : List (List ℕ)) → length (texts cells) ≤ length cells
 unfolding texts
 texts_count [] = omega arith
-texts_count (cell ∷ cells) = by_answer (stay_apart (cell ∷ cells))
+texts_count (cell ∷ cells) = by_answer (stay_independent (cell ∷ cells))
   where
     by_answer : (b : Bool) → length (if b then concat (cell ∷ cells) ∷ [] else cell ∷ cells) ≤ length (cell ∷ cells)
     by_answer true = omega arith
@@ -148,15 +148,15 @@ again_count : (s : Screen) (o : Option VisibleCell) → length (written_again s 
 again_count s None = omega arith
 again_count s (Some v) = omega arith
 
-place_count : (s : Screen) → 0 < s.width → length (flat_map (as_sent s) (place_of s)) ≤ 4
-place_count s wide =
+position_count : (s : Screen) → 0 < s.width → length (flat_map (as_sent s) (position_of s)) ≤ 4
+position_count s wide =
     by_test (s.column == s.width)
     (λ e. subst (λ (cs : List ChangeValue). length cs ≤ 4) (sym (sent_there s wide e)) (again_count s (last_cell (cursor_row s))))
-    (λ e. subst (λ (cs : List ChangeValue). length cs ≤ 4) (sym (sent_here s e)) (one_place _))
+    (λ e. subst (λ (cs : List ChangeValue). length cs ≤ 4) (sym (sent_here s e)) (one_position _))
   where
-    one_place : (b : Bool) → length (if b then [] else CursorPosition (Absolute s.column) (Absolute s.row) ∷ []) ≤ 4
-    one_place true = omega arith
-    one_place false = omega arith
+    one_position : (b : Bool) → length (if b then [] else CursorPosition (Absolute s.column) (Absolute s.row) ∷ []) ≤ 4
+    one_position true = omega arith
+    one_position false = omega arith
 
 shown_count : (visible : Bool) → length (cursor_shown visible None) ≤ 1
 shown_count true = omega arith
@@ -167,16 +167,16 @@ bound_of s = 2 * s.width * height s + 2 * height s + 11
 
 pub painted_count : (s : Screen) → IsScreen s → length (painted_anew s) ≤ bound_of s
 painted_count s h =
-    let place : List ChangeValue = flat_map (as_sent s) (place_of s) in
+    let position : List ChangeValue = flat_map (as_sent s) (position_of s) in
     let shown : List ChangeValue = cursor_shown s.visible None in
     let rows : List ChangeValue = painted_rows s in
-    let a : length (painted_anew s) ≡ length (front_of s ++ place ++ due_of s ++ shown) = ap length (sent_is s h.wide_enough) in
-    let b = length-append (front_of s ++ place ++ due_of s) shown in
-    let c = length-append (front_of s ++ place) (due_of s) in
-    let d = length-append (front_of s) place in
-    let prefix : length (front_of s) ≡ 3 + length rows = omega arith in
+    let a : length (painted_anew s) ≡ length (prefix_of s ++ position ++ due_of s ++ shown) = ap length (sent_is s h.wide_enough) in
+    let b = length-append (prefix_of s ++ position ++ due_of s) shown in
+    let c = length-append (prefix_of s ++ position) (due_of s) in
+    let d = length-append (prefix_of s) position in
+    let prefix : length (prefix_of s) ≡ 3 + length rows = omega arith in
     let e = rows_count s.width plain s.rows h.even in
-    let f = place_count s h.wide_enough in
+    let f = position_count s h.wide_enough in
     let g = due_count (pen_left plain rows) s.pen in
     let k = shown_count s.visible in
     omega (arith, a, b, c, d, e, f, g, k, prefix)

@@ -69,9 +69,9 @@ one_spelled width tall change changes e h = subst (λ (cs : List Change). HaveSp
 
 -- ---- lists of them
 
-pub spellings_front : (width tall : ℕ) (xs ys : List ChangeValue) → HaveSpellings width tall (xs ++ ys) → HaveSpellings width tall xs
-spellings_front width tall [] ys h = tt
-spellings_front width tall (x ∷ xs) ys h = (h.0, spellings_front width tall xs ys h.1)
+pub spellings_prefix : (width tall : ℕ) (xs ys : List ChangeValue) → HaveSpellings width tall (xs ++ ys) → HaveSpellings width tall xs
+spellings_prefix width tall [] ys h = tt
+spellings_prefix width tall (x ∷ xs) ys h = (h.0, spellings_prefix width tall xs ys h.1)
 
 pub spellings_after : (width tall : ℕ) (xs ys : List ChangeValue) → HaveSpellings width tall (xs ++ ys) → HaveSpellings width tall ys
 spellings_after width tall [] ys h = h
@@ -85,5 +85,5 @@ module _ {X : Type 0} (width tall : ℕ) (value : X → ChangeValue) where
 
   pub spelled_in : (as_sent : ChangeValue → List ChangeValue) (xs : List X) (i : ℕ) (x : X) → i < length xs → x ≡ get_or xs i x → HaveSpellings width tall (flat_map as_sent (map value xs)) → HaveSpellings width tall (as_sent (value x))
   spelled_in as_sent [] i x lt e h = absurd (omega (arith, lt))
-  spelled_in as_sent (y ∷ xs) zero x lt e h = subst (λ (z : X). HaveSpellings width tall (as_sent (value z))) (sym e) (spellings_front width tall (as_sent (value y)) (flat_map as_sent (map value xs)) h)
+  spelled_in as_sent (y ∷ xs) zero x lt e h = subst (λ (z : X). HaveSpellings width tall (as_sent (value z))) (sym e) (spellings_prefix width tall (as_sent (value y)) (flat_map as_sent (map value xs)) h)
   spelled_in as_sent (y ∷ xs) (suc i) x lt e h = spelled_in as_sent xs i x (omega (arith, lt)) e (spellings_after width tall (as_sent (value y)) (flat_map as_sent (map value xs)) h)

@@ -141,7 +141,7 @@ above false true c d e = refl
 above false false c d e = rw e refl
 
 next_is : (s : Sized) (change : ChangeValue) (n : ℕ) → length s.log.entries ≤ s.log.number → due s.most (step_of_kept s (Logged change)).log n ≡ due_more s.most s.log.number change n (due s.most s.log n)
-next_is s change n h = by_place (leb_tells (suc s.log.number) n) (eqb_tells n (s.log.number + 1))
+next_is s change n h = by_position (leb_tells (suc s.log.number) n) (eqb_tells n (s.log.number + 1))
   where
     later : Log
     later = (step_of_kept s (Logged change)).log
@@ -149,12 +149,12 @@ next_is s change n h = by_place (leb_tells (suc s.log.number) n) (eqb_tells n (s
     next : Bool → Bool → Option (List ChangeValue)
     next is_past is_new = due_next is_past is_new s.most s.log.number change n (due s.most s.log n)
 
-    by_place : ((nat_lt s.log.number n ≡ true) × (suc s.log.number ≤ n)) ⊎ ((nat_lt s.log.number n ≡ false) × (n < suc s.log.number))
+    by_position : ((nat_lt s.log.number n ≡ true) × (suc s.log.number ≤ n)) ⊎ ((nat_lt s.log.number n ≡ false) × (n < suc s.log.number))
         → (((n == s.log.number + 1) ≡ true) × (n ≡ s.log.number + 1)) ⊎ (((n == s.log.number + 1) ≡ false) × (n ≢ s.log.number + 1))
         → due s.most later n ≡ next (nat_lt s.log.number n) (n == s.log.number + 1)
-    by_place (inr p) e = due_later s.most s.log change n h (let k = p.1 in omega arith) ∙ ap (λ b. next b (n == s.log.number + 1)) (sym p.0)
-    by_place (inl p) (inl e) = ap (due s.most later) e.1 ∙ nothing_newer s.most s.log change h ∙ (λ i. next (sym p.0 i) (sym e.0 i))
-    by_place (inl p) (inr e) = let k = p.1 in let m = e.1 in
+    by_position (inr p) e = due_later s.most s.log change n h (let k = p.1 in omega arith) ∙ ap (λ b. next b (n == s.log.number + 1)) (sym p.0)
+    by_position (inl p) (inl e) = ap (due s.most later) e.1 ∙ nothing_newer s.most s.log change h ∙ (λ i. next (sym p.0 i) (sym e.0 i))
+    by_position (inl p) (inr e) = let k = p.1 in let m = e.1 in
         let past : nat_lt later.number n ≡ true = grind (arith, nat_tests) in
         none_due s.most later n (above (n == 0) (nat_lt n (first_number later)) (nat_lt later.number n) (nat_lt s.most (later.number - n)) past) ∙ (λ i. next (sym p.0 i) (sym e.0 i))
 

@@ -5,7 +5,7 @@ pub mod ViewerLemmas
 pub mod InputLemmas
 pub mod PieceLemmas
 pub mod KeptLemmas
-pub mod PlaceLemmas
+pub mod PositionLemmas
 pub mod PaintLemmas
 pub mod SpellLemmas
 pub mod CountLemmas

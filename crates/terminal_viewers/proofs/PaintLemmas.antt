@@ -22,14 +22,14 @@ use Rattle.screen_change.specs.Texts.{texts}
 use Rattle.screen_change.proofs.TextLemmas.{by_test}
 use Rattle.screen_effects.specs.Display.{Display, IsDisplay}
 use Rattle.screen_effects.specs.Effect.{cursor_row, effect, on_screen, replay, with_pen}
-use Rattle.screen_effects.specs.Positions.{column_place}
+use Rattle.screen_effects.specs.Positions.{resolved_column}
 use Rattle.screen_effects.proofs.EffectLaws.{replay_is}
 use Rattle.screen_repaint.specs.Repaint.{are_some, cursor_placed, cursor_shown, end_cleared, go_with_blanks, in_next_row, pen_left, repaint_with, row_cells, row_painted, rows_painted}
 use Rattle.screen_repaint.specs.Shown.{shown_on}
 use Rattle.screen_repaint.proofs.WholeLemmas.{titled_is_shown}
 use Rattle.screen_effects.specs.WrittenCells.{IsSoundDisplay, IsSoundRow}
 use Rattle.terminal_viewers.specs.Update.{display_on, last_cell, painted_anew, as_sent, written_again}
-use Rattle.terminal_viewers.proofs.PlaceLemmas.{row_is, written_is}
+use Rattle.terminal_viewers.proofs.PositionLemmas.{row_is, written_is}
 
 -- ---- the changes of rows
 
@@ -131,32 +131,32 @@ shown_sent s false = refl
 abbrev pub painted_rows : Screen → List ChangeValue
 painted_rows s = rows_painted plain s.rows
 
-abbrev pub front_of : Screen → List ChangeValue
-front_of s = (CursorVisibility Hidden ∷ ClearScreen attribute.Default ∷ []) ++ (Title s.title ∷ []) ++ painted_rows s
+abbrev pub prefix_of : Screen → List ChangeValue
+prefix_of s = (CursorVisibility Hidden ∷ ClearScreen attribute.Default ∷ []) ++ (Title s.title ∷ []) ++ painted_rows s
 
-abbrev pub place_of : Screen → List ChangeValue
-place_of s = cursor_placed (are_some (painted_rows s)) s.column s.row
+abbrev pub position_of : Screen → List ChangeValue
+position_of s = cursor_placed (are_some (painted_rows s)) s.column s.row
 
 abbrev pub due_of : Screen → List ChangeValue
 due_of s = attributes_due (pen_left plain (painted_rows s)) s.pen
 
 -- only the position of the cursor is sent otherwise
-pub sent_is : (s : Screen) → 0 < s.width → painted_anew s ≡ front_of s ++ flat_map (as_sent s) (place_of s) ++ due_of s ++ cursor_shown s.visible None
+pub sent_is : (s : Screen) → 0 < s.width → painted_anew s ≡ prefix_of s ++ flat_map (as_sent s) (position_of s) ++ due_of s ++ cursor_shown s.visible None
 sent_is s wide =
     let f : ChangeValue → List ChangeValue = as_sent s in
     let begin : List ChangeValue = (CursorVisibility Hidden ∷ ClearScreen attribute.Default ∷ []) ++ (Title s.title ∷ []) in
     let rows : List ChangeValue = painted_rows s in
     let shown : List ChangeValue = cursor_shown s.visible None in
     let rows_are : flat_map f rows ≡ rows = each_of_row f (λ change. change ∷ []) (sent_of_row s wide) rows (rows_of_row plain s.rows) ∙ all_alone rows in
-    flat_map-append f (begin ++ rows ++ place_of s ++ due_of s) shown
-    ∙ (λ i. flat_map-append f (begin ++ rows ++ place_of s) (due_of s) i ++ shown_sent s s.visible i)
-    ∙ (λ i. flat_map-append f (begin ++ rows) (place_of s) i ++ due_sent s (pen_left plain rows) s.pen i ++ shown)
-    ∙ (λ i. flat_map-append f begin rows i ++ flat_map f (place_of s) ++ due_of s ++ shown)
-    ∙ (λ i. begin ++ rows_are i ++ flat_map f (place_of s) ++ due_of s ++ shown)
+    flat_map-append f (begin ++ rows ++ position_of s ++ due_of s) shown
+    ∙ (λ i. flat_map-append f (begin ++ rows ++ position_of s) (due_of s) i ++ shown_sent s s.visible i)
+    ∙ (λ i. flat_map-append f (begin ++ rows) (position_of s) i ++ due_sent s (pen_left plain rows) s.pen i ++ shown)
+    ∙ (λ i. flat_map-append f begin rows i ++ flat_map f (position_of s) ++ due_of s ++ shown)
+    ∙ (λ i. begin ++ rows_are i ++ flat_map f (position_of s) ++ due_of s ++ shown)
 
 -- ---- no wrap is pending
 
-pub sent_here : (s : Screen) → (s.column == s.width) ≡ false → flat_map (as_sent s) (place_of s) ≡ place_of s
+pub sent_here : (s : Screen) → (s.column == s.width) ≡ false → flat_map (as_sent s) (position_of s) ≡ position_of s
 sent_here s e = by_answer (not (are_some (painted_rows s)) && (s.column == 0 && s.row == 0))
   where
     by_answer : (b : Bool) → flat_map (as_sent s) (if b then [] else CursorPosition (Absolute s.column) (Absolute s.row) ∷ []) ≡ (if b then [] else CursorPosition (Absolute s.column) (Absolute s.row) ∷ [])
@@ -169,13 +169,13 @@ and_false : (b : Bool) → (b && false) ≡ false
 and_false true = refl
 and_false false = refl
 
-placed_there : (s : Screen) → 0 < s.width → (s.column == s.width) ≡ true → place_of s ≡ CursorPosition (Absolute s.column) (Absolute s.row) ∷ []
+placed_there : (s : Screen) → 0 < s.width → (s.column == s.width) ≡ true → position_of s ≡ CursorPosition (Absolute s.column) (Absolute s.row) ∷ []
 placed_there s wide e =
     let not_home : (s.column == 0) ≡ false = grind (arith, nat_tests) in
     let test : (not (are_some (painted_rows s)) && (s.column == 0 && s.row == 0)) ≡ false = ap (λ b. not (are_some (painted_rows s)) && (b && s.row == 0)) not_home ∙ and_false (not (are_some (painted_rows s))) in
     ap (λ b. if b then [] else CursorPosition (Absolute s.column) (Absolute s.row) ∷ []) test
 
-pub sent_there : (s : Screen) → 0 < s.width → (s.column == s.width) ≡ true → flat_map (as_sent s) (place_of s) ≡ written_again s (last_cell (cursor_row s))
+pub sent_there : (s : Screen) → 0 < s.width → (s.column == s.width) ≡ true → flat_map (as_sent s) (position_of s) ≡ written_again s (last_cell (cursor_row s))
 sent_there s wide e =
     ap (flat_map (as_sent s)) (placed_there s wide e)
     ∙ ap (λ b. (if b then written_again s (last_cell (cursor_row s)) else CursorPosition (Absolute s.column) (Absolute s.row) ∷ []) ++ []) e
@@ -213,15 +213,15 @@ module _ (width_of : List ℕ → ℕ) where
       by_answer false true = ap (λ (s : Screen). record s { visible = true; pen = a }) same
       by_answer false false = ap (with_pen a) same
 
-  three_parts : (d : Display) (prefix place due shown : List ChangeValue) → replay width_of d (prefix ++ place ++ due ++ shown) ≡ replay width_of (replay width_of (replay width_of (replay width_of d prefix) place) due) shown
-  three_parts d prefix place due shown =
-      fold-append (effect width_of) d (prefix ++ place ++ due) shown
-      ∙ ap (λ (e : Display). replay width_of e shown) (fold-append (effect width_of) d (prefix ++ place) due ∙ ap (λ (e : Display). replay width_of e due) (fold-append (effect width_of) d prefix place))
+  three_parts : (d : Display) (prefix position due shown : List ChangeValue) → replay width_of d (prefix ++ position ++ due ++ shown) ≡ replay width_of (replay width_of (replay width_of (replay width_of d prefix) position) due) shown
+  three_parts d prefix position due shown =
+      fold-append (effect width_of) d (prefix ++ position ++ due) shown
+      ∙ ap (λ (e : Display). replay width_of e shown) (fold-append (effect width_of) d (prefix ++ position) due ∙ ap (λ (e : Display). replay width_of e due) (fold-append (effect width_of) d prefix position))
 
   module _ (other : Display) (s : Screen) (narrow : width_of space ≡ 1) (h : IsDisplay (display_on s)) (sound : IsSoundDisplay width_of (display_on s)) (g : IsDisplay other)
       (wide : other.screen.width ≡ s.width) (high : length other.screen.rows ≡ length s.rows) where
     abbrev painted_before : Display
-    painted_before = replay width_of other (front_of s)
+    painted_before = replay width_of other (prefix_of s)
 
     abbrev shown_now : List ChangeValue
     shown_now = cursor_shown s.visible None
@@ -231,7 +231,7 @@ module _ (width_of : List ℕ → ℕ) where
 
     here : (s.column == s.width) ≡ false → (replay width_of other (painted_anew s)).screen ≡ s
     here e =
-        let as_sent : painted_anew s ≡ repaint_with (Title s.title ∷ []) (display_on s) = sent_is s h.lawful.wide_enough ∙ ap (λ (cs : List ChangeValue). front_of s ++ cs ++ due_of s ++ shown_now) (sent_here s e) in
+        let as_sent : painted_anew s ≡ repaint_with (Title s.title ∷ []) (display_on s) = sent_is s h.lawful.wide_enough ∙ ap (λ (cs : List ChangeValue). prefix_of s ++ cs ++ due_of s ++ shown_now) (sent_here s e) in
         ap (λ (cs : List ChangeValue). (replay width_of other cs).screen) as_sent ∙ ap (λ (d : Display). d.screen) law
 
     there : (s.column == s.width) ≡ true → (replay width_of other (painted_anew s)).screen ≡ s
@@ -243,23 +243,23 @@ module _ (width_of : List ℕ → ℕ) where
         let pen : Attributes = pen_left plain (painted_rows s) in
         let end : replay width_of (replay width_of moved (due_of s)) shown_now ≡ shown_on other s.title (display_on s) =
         ap (λ (cs : List ChangeValue). replay width_of (replay width_of (replay width_of d cs) (due_of s)) shown_now) (sym (placed_there s h.lawful.wide_enough e))
-        ∙ sym (three_parts other (front_of s) (place_of s) (due_of s) shown_now)
+        ∙ sym (three_parts other (prefix_of s) (position_of s) (due_of s) shown_now)
         ∙ law in
         let rows : d.screen.rows ≡ s.rows = sym (after_rows moved pen s.pen s.visible) ∙ ap (λ (x : Display). x.screen.rows) end in
         let width : d.screen.width ≡ s.width = sym (after_width moved pen s.pen s.visible) ∙ ap (λ (x : Display). x.screen.width) end in
-        let lawful : IsDisplay d = replay_is width_of (front_of s) other g in
+        let lawful : IsDisplay d = replay_is width_of (prefix_of s) other g in
         let sounds : IsSoundDisplay width_of d = subst (λ (rs : List Row). All (IsSoundRow width_of) rs) (sym rows) sound in
         let written = written_is width_of s d lawful sounds rows h.lawful.row_in in
         let tall : s.row < length d.screen.rows = subst (λ (rs : List Row). s.row < length rs) (sym rows) h.lawful.row_in in
         let test : (s.column == d.screen.width) ≡ true = ap (λ n. s.column == n) width ∙ e in
         let same : on_screen (λ t. record t { column = t.width; row = s.row; pen = s.pen }) d ≡ on_screen (with_pen s.pen) moved =
         λ i. on_screen (λ t. record t { column = at_width d.screen.width d.screen.column test i; row = sym (row_is (length d.screen.rows) d.screen.row s.row tall) i; pen = s.pen }) d in
-        ap (λ (cs : List ChangeValue). (replay width_of other cs).screen) (sent_is s h.lawful.wide_enough ∙ ap (λ (cs : List ChangeValue). front_of s ++ cs ++ due_of s ++ shown_now) (sent_there s h.lawful.wide_enough e))
-        ∙ ap (λ (x : Display). x.screen) (three_parts other (front_of s) again (due_of s) shown_now)
+        ap (λ (cs : List ChangeValue). (replay width_of other cs).screen) (sent_is s h.lawful.wide_enough ∙ ap (λ (cs : List ChangeValue). prefix_of s ++ cs ++ due_of s ++ shown_now) (sent_there s h.lawful.wide_enough e))
+        ∙ ap (λ (x : Display). x.screen) (three_parts other (prefix_of s) again (due_of s) shown_now)
         ∙ after_pen moved (replay width_of d again) pen s.pen s.visible (ap (λ (x : Display). x.screen) (written ∙ same))
         ∙ ap (λ (x : Display). with_pen s.pen x.screen) end
       where
-        at_width : (width from : ℕ) → (s.column == width) ≡ true → width ≡ column_place width from (Absolute s.column)
+        at_width : (width from : ℕ) → (s.column == width) ≡ true → width ≡ resolved_column width from (Absolute s.column)
         at_width width from t = sym (ap (λ b. if b then width else min s.column (width - 1)) t)
 
     pub painted_is_shown : (replay width_of other (painted_anew s)).screen ≡ s

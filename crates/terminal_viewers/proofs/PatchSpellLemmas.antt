@@ -24,9 +24,9 @@ use Rattle.screen_difference.specs.Difference.{Stretch, alone, before_stretches,
 use Rattle.screen_difference.specs.FreshCells.{PlacedCell, columns_from, fresh, is_shown, placed, row_fresh, rows_fresh, screen_fresh, shared_width}
 use Rattle.screen_effects.specs.Display.{IsDisplay}
 use Rattle.screen_effects.specs.Effect.{cursor_row}
-use Rattle.terminal_viewers.specs.Patch.{patch_changes, place_and_pen}
+use Rattle.terminal_viewers.specs.Patch.{patch_changes, position_and_pen}
 use Rattle.terminal_render.specs.Spelling.{HasSpelling, HaveSpellings, IsSpelledPen, IsSpelledRow, IsSpelledRun, IsSpelledScreen, IsSpelledTitle}
-use Rattle.terminal_render.proofs.ChangeLemmas.{has_spelling, place_some}
+use Rattle.terminal_render.proofs.ChangeLemmas.{has_spelling, coordinate_some}
 use Rattle.terminal_viewers.proofs.RepaintLemmas.{AreSpelledCellRuns, AreSpelledCells, runs_spelled, texts_spelled}
 use Rattle.terminal_render.proofs.TextLemmas.{AreSpelledRuns}
 use Rattle.terminal_table.specs.Changes.{visibility}
@@ -118,7 +118,7 @@ stretches_spelled width (c ∷ cells) p = before_spelled width c (stretches cell
 -- What holds of a text and of attributes that have a spelling, of a place before the last column, and of the other kinds of changes,
 -- holds of each change of a patch.
 module _ (width : ℕ) (P : ChangeValue → Type 0) (of_text : (text : List ℕ) → IsSpelledRun text → P (Text text)) (of_pen : (pen : Attributes) → IsSpelledPen pen → P (AllAttributes pen))
-    (of_place : (column row : ℕ) → column < width → P (CursorPosition (Absolute column) (Absolute row))) (of_title : (title : List ℕ) → IsSpelledTitle title → P (Title title)) (of_sight : (visible : Bool) → P (CursorVisibility (visibility visible))) where
+    (of_position : (column row : ℕ) → column < width → P (CursorPosition (Absolute column) (Absolute row))) (of_title : (title : List ℕ) → IsSpelledTitle title → P (Title title)) (of_sight : (visible : Bool) → P (CursorVisibility (visibility visible))) where
   abbrev Each : List ChangeValue → Type 0
   Each = AllByRecursion P
 
@@ -142,8 +142,8 @@ module _ (width : ℕ) (P : ChangeValue → Type 0) (of_text : (text : List ℕ)
 
   each_stretch : (pen : Option Attributes) (s : Stretch) → IsSpelledStretch width s → Each (stretch_written pen s)
   each_stretch None s p =
-      (of_place s.column s.row p.0, (of_pen s.first.attributes p.1.0.1, each_run s.first.attributes (cell_runs (cells_of s)) (runs_spelled (cells_of s) p.1)))
-  each_stretch (Some pen) s p = (of_place s.column s.row p.0, each_run pen (cell_runs (cells_of s)) (runs_spelled (cells_of s) p.1))
+      (of_position s.column s.row p.0, (of_pen s.first.attributes p.1.0.1, each_run s.first.attributes (cell_runs (cells_of s)) (runs_spelled (cells_of s) p.1)))
+  each_stretch (Some pen) s p = (of_position s.column s.row p.0, each_run pen (cell_runs (cells_of s)) (runs_spelled (cells_of s) p.1))
 
   each_of_stretches : (pen : Option Attributes) (ss : List Stretch) → AreSpelledStretches width ss → Each (stretches_written pen ss)
   each_of_stretches pen [] p = tt
@@ -153,10 +153,10 @@ module _ (width : ℕ) (P : ChangeValue → Type 0) (of_text : (text : List ℕ)
 
   each_again : (s : Screen) → IsSpelledPen s.pen → (o : Option VisibleCell) → update.IsSpelledCell width o → Each (written_again s o)
   each_again s p None q = tt
-  each_again s p (Some v) q = (of_place v.column s.row q.2, (of_pen v.cell.attributes q.1, (of_text v.cell.text q.0, (of_pen s.pen p, tt))))
+  each_again s p (Some v) q = (of_position v.column s.row q.2, (of_pen v.cell.attributes q.1, (of_text v.cell.text q.0, (of_pen s.pen p, tt))))
 
-  each_place : (s : Screen) → s.width ≡ width → IsDisplay (display_on s) → IsSpelledScreen s → Each (place_and_pen s)
-  each_place s wide d p =
+  each_position : (s : Screen) → s.width ≡ width → IsDisplay (display_on s) → IsSpelledScreen s → Each (position_and_pen s)
+  each_position s wide d p =
       let again : List ChangeValue = written_again s (last_cell (cursor_row s)) in
       let moves : List ChangeValue = CursorPosition (Absolute s.column) (Absolute s.row) ∷ AllAttributes s.pen ∷ [] in
       cond_both (s.column == s.width) again moves Each
@@ -167,7 +167,7 @@ module _ (width : ℕ) (P : ChangeValue → Type 0) (of_text : (text : List ℕ)
       (λ e.
       let in_columns = d.lawful.column_in in
       let before : s.column < width = grind (arith, nat_tests) in
-      (of_place s.column s.row before, (of_pen s.pen p.pen, tt)))
+      (of_position s.column s.row before, (of_pen s.pen p.pen, tt)))
 
   pub each_of_patch : (old new : Screen) → new.width ≡ width → IsDisplay (display_on old) → IsDisplay (display_on new) → old.width ≡ new.width → IsSpelledScreen new → Each (patch_changes old new)
   each_of_patch old new is g h wide p =
@@ -178,8 +178,8 @@ module _ (width : ℕ) (P : ChangeValue → Type 0) (of_text : (text : List ℕ)
       (rows_spelled old.width 0 old.rows new.rows g.lawful.even even h.whole p.rows) in
       let spelled : ArePlaced width cells = subst (λ m. ArePlaced m cells) (wide ∙ is) own in (
         of_title new.title p.title,
-        each_append (difference cells ++ place_and_pen new) (CursorVisibility (visibility new.visible) ∷ [])
-            (each_append (difference cells) (place_and_pen new) (each_of_stretches None (stretches cells) (stretches_spelled width cells spelled)) (each_place new is h p))
+        each_append (difference cells ++ position_and_pen new) (CursorVisibility (visibility new.visible) ∷ [])
+            (each_append (difference cells) (position_and_pen new) (each_of_stretches None (stretches cells) (stretches_spelled width cells spelled)) (each_position new is h p))
             (of_sight new.visible, tt),
       )
 
@@ -197,7 +197,7 @@ patch_has old new g h wide tall p =
     (each_of_patch w (HasSpelling w n)
     (λ text q. has_spelling w n (Text text) q.spelled tt (inl q.printed))
     (λ pen q. has_spelling w n (AllAttributes pen) q tt tt)
-    (λ column row lt. has_spelling w n (CursorPosition (Absolute column) (Absolute row)) tt (place_some w n column (Absolute row) lt) tt)
+    (λ column row lt. has_spelling w n (CursorPosition (Absolute column) (Absolute row)) tt (coordinate_some w n column (Absolute row) lt) tt)
     (λ title q. has_spelling w n (Title title) q tt tt)
     (λ visible. has_spelling w n (CursorVisibility (visibility visible)) tt tt tt)
     old new refl g h wide p)

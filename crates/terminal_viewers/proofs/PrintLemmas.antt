@@ -23,7 +23,7 @@ use Rattle.cell_base.specs.Link.{Link}
 use Rattle.escape_osc.specs.Command.{set_window_title}
 use Rattle.escape_stream.specs.StreamAction.{StreamAction, command}
 use Rattle.screen_difference.specs.Difference.{difference, position}
-use Rattle.screen_difference.specs.DrawnCells.{HavePlaces}
+use Rattle.screen_difference.specs.DrawnCells.{HavePositions}
 use Rattle.screen_difference.specs.FreshCells.{PlacedCell, screen_fresh}
 use Rattle.screen_effects.specs.Display.{Display, IsDisplay}
 use Rattle.screen_effects.specs.Effect.{cursor_row, effect, replay}
@@ -31,16 +31,16 @@ use Rattle.screen_effects.specs.Strokes.{Cluster, Stroke, TextPart, strokes, tex
 use Rattle.screen_effects.proofs.EffectLaws.{effect_is}
 use Rattle.screen_difference.specs.Prints.{change_strokes, changes_print, strokes_print, strokes_scroll, text_of, texts_scroll}
 use Rattle.screen_effects.specs.WrittenCells.{IsSoundDisplay}
-use Rattle.terminal_viewers.specs.Patch.{patch_changes, place_and_pen, place_prints, print_again}
+use Rattle.terminal_viewers.specs.Patch.{patch_changes, position_and_pen, position_prints, print_again}
 use Rattle.terminal_viewers.proofs.ActionLemmas.{AreQuiet, IsQuiet, Sends, both_send, none_sends, quiet_append, quiet_sends, reset_quiet, run_sends, settings_quiet}
 use Rattle.terminal_viewers.proofs.LeadLemmas as lead
-use Rattle.terminal_viewers.proofs.LeadLemmas.{DifferencesKeepOthers, RegionsHavePlaces, ScreensAreShown}
+use Rattle.terminal_viewers.proofs.LeadLemmas.{DifferencesKeepRest, RegionsHavePositions, ScreensAreShown}
 use Rattle.terminal_viewers.proofs.PatchSpellLemmas.{each_of_patch}
 use Rattle.terminal_render.specs.Effects.{IsReady, actions_done, with_change}
 use Rattle.terminal_render.specs.Links.{is_plain_text}
 use Rattle.terminal_render.specs.Lists.{all_rendered}
 use Rattle.terminal_render.specs.Pen.{is_unsaid, link_action, pen_actions, pen_rendering, pen_settings, set}
-use Rattle.terminal_render.specs.Places.{moves, position_moves}
+use Rattle.terminal_render.specs.Positions.{moves, position_moves}
 use Rattle.terminal_render.specs.Rendering.{moved, rendering}
 use Rattle.terminal_render.specs.Texts.{part_actions, run_actions, text_rendering, title_rendering}
 use Rattle.terminal_render.proofs.ListLemmas.{parts}
@@ -52,7 +52,7 @@ use Rattle.terminal_table.specs.Meaning.{View}
 use Rattle.terminal_table.specs.Turns.{IsPrinted}
 use Rattle.terminal_table.proofs.RunLemmas.{one_part, printed_strokes}
 use Rattle.terminal_viewers.specs.Update.{display_on, last_cell, written_again}
-use Rattle.terminal_viewers.proofs.PlaceLemmas.{LastCell, cell_columns, last_cell_is, none_due, one_text_is}
+use Rattle.terminal_viewers.proofs.PositionLemmas.{LastCell, cell_columns, last_cell_is, none_due, one_text_is}
 
 -- ---- the kinds of changes of a patch
 
@@ -82,12 +82,12 @@ unfolding title_rendering function_of
 title_quiet text = choose (is_plain_text text)
   where
     choose : (b : Bool) → IfQuiet (if b then Some (command (set_window_title text) ∷ []) else None)
-    choose true = (record { apart = refl; rows = λ state. refl; still = λ state. refl }, tt)
+    choose true = (record { separate = refl; rows = λ state. refl; still = λ state. refl }, tt)
     choose false = tt
 
 link_quiet : (link : Option Link) → IsQuiet (link_action link)
 unfolding function_of
-link_quiet link = record { apart = refl; rows = λ state. refl; still = λ state. refl }
+link_quiet link = record { separate = refl; rows = λ state. refl; still = λ state. refl }
 
 pen_quiet : (a : Attributes) → IfQuiet (pen_rendering a)
 unfolding pen_rendering
@@ -101,18 +101,18 @@ pen_quiet a = choose (is_unsaid a)
     choose true = tt
     choose false = set_all (pen_settings a)
 
-place_quiet : (width tall column row : ℕ) → IfQuiet (option_map (map moved) (position_moves width tall (Absolute column) (Absolute row)))
+position_quiet : (width tall column row : ℕ) → IfQuiet (option_map (map moved) (position_moves width tall (Absolute column) (Absolute row)))
 unfolding position_moves moves function_of
-place_quiet width tall column row = choose (nat_le width column)
+position_quiet width tall column row = choose (nat_le width column)
   where
     choose : (b : Bool) → IfQuiet (option_map (map moved) (if b then None else Some (cursor.Position (min row (tall - 1) + 1) (min column (width - 1) + 1) ∷ [])))
     choose true = tt
-    choose false = (record { apart = refl; rows = λ state. refl; still = λ state. refl }, tt)
+    choose false = (record { separate = refl; rows = λ state. refl; still = λ state. refl }, tt)
 
 sight_quiet : (sight : Visibility) (width tall : ℕ) → IfQuiet (rendering (CursorVisibility sight) width tall)
 unfolding function_of
-sight_quiet Visible width tall = (record { apart = refl; rows = λ state. refl; still = λ state. refl }, tt)
-sight_quiet Hidden width tall = (record { apart = refl; rows = λ state. refl; still = λ state. refl }, tt)
+sight_quiet Visible width tall = (record { separate = refl; rows = λ state. refl; still = λ state. refl }, tt)
+sight_quiet Hidden width tall = (record { separate = refl; rows = λ state. refl; still = λ state. refl }, tt)
 
 of_some : {A : Type 0} (P : A → Type 0) (found : Option A) (x : A) → found ≡ Some x → IfSome found P → P x
 of_some P found x e h = subst (λ o. IfSome o P) e h
@@ -146,7 +146,7 @@ module _ (f : List ℕ → ℕ) where
   change_sends v (AllAttributes pen) width tall actions none p still e = quiet_sends f v actions none (of_some AreQuiet (pen_rendering pen) actions e (pen_quiet pen))
   change_sends v (Title title) width tall actions none p still e = quiet_sends f v actions none (of_some AreQuiet (title_rendering title) actions e (title_quiet title))
   change_sends v (CursorPosition (Absolute column) (Absolute row)) width tall actions none p still e =
-      quiet_sends f v actions none (of_some AreQuiet (option_map (map moved) (position_moves width tall (Absolute column) (Absolute row))) actions e (place_quiet width tall column row))
+      quiet_sends f v actions none (of_some AreQuiet (option_map (map moved) (position_moves width tall (Absolute column) (Absolute row))) actions e (position_quiet width tall column row))
   change_sends v (CursorVisibility sight) width tall actions none p still e = quiet_sends f v actions none (of_some AreQuiet (rendering (CursorVisibility sight) width tall) actions e (sight_quiet sight width tall))
   change_sends v _ width tall actions none p still e = absurd p
 
@@ -192,10 +192,10 @@ module _ (f : List ℕ → ℕ) where
 
 -- the laws of what differences print
 abbrev pub DifferencesPrintCells : Type 0
-DifferencesPrintCells = (width_of : List ℕ → ℕ) (display : Display) (cells : List PlacedCell) → IsDisplay display → HavePlaces width_of display.screen.width (height display.screen) cells → changes_print width_of display (difference cells) ≡ map text_of cells
+DifferencesPrintCells = (width_of : List ℕ → ℕ) (display : Display) (cells : List PlacedCell) → IsDisplay display → HavePositions width_of display.screen.width (height display.screen) cells → changes_print width_of display (difference cells) ≡ map text_of cells
 
 abbrev pub DifferencesAreStill : Type 0
-DifferencesAreStill = (width_of : List ℕ → ℕ) (display : Display) (cells : List PlacedCell) → IsDisplay display → HavePlaces width_of display.screen.width (height display.screen) cells → texts_scroll width_of display (difference cells) ≡ false
+DifferencesAreStill = (width_of : List ℕ → ℕ) (display : Display) (cells : List PlacedCell) → IsDisplay display → HavePositions width_of display.screen.width (height display.screen) cells → texts_scroll width_of display (difference cells) ≡ false
 
 abbrev pub PrintsJoin : Type 0
 PrintsJoin = (width_of : List ℕ → ℕ) (display : Display) (first : List ChangeValue) (second : List ChangeValue) → changes_print width_of display (first ++ second) ≡ changes_print width_of display first ++ changes_print width_of (replay width_of display first) second
@@ -217,28 +217,28 @@ one_written row v =
     ∙ append-nil (attributes_due a a ++ map Text (texts (text ∷ [])))
     ∙ (λ i. none_due a i ++ map Text (one_text_is text i)))
 
-module _ (keeps : DifferencesKeepOthers) (places : RegionsHavePlaces) (shows : ScreensAreShown) (print : DifferencesPrintCells) (calm : DifferencesAreStill) (join : PrintsJoin) (still_join : StillJoin) where
+module _ (keeps : DifferencesKeepRest) (positions : RegionsHavePositions) (shows : ScreensAreShown) (print : DifferencesPrintCells) (calm : DifferencesAreStill) (join : PrintsJoin) (still_join : StillJoin) where
   module _ (f : List ℕ → ℕ) (old new : Screen) (narrow : f space ≡ 1) (g : IsDisplay (display_on old)) (h : IsDisplay (display_on new)) (sound : IsSoundDisplay f (display_on new))
       (wide : old.width ≡ new.width) (tall : height old ≡ height new) where
     abbrev titled : Display
-    titled = lead.titled keeps places shows f old new narrow g h sound wide tall
+    titled = lead.titled keeps positions shows f old new narrow g h sound wide tall
 
     abbrev drawn : Display
-    drawn = lead.drawn keeps places shows f old new narrow g h sound wide tall
+    drawn = lead.drawn keeps positions shows f old new narrow g h sound wide tall
 
     drawn_is : IsDisplay drawn
-    drawn_is = lead.drawn_is keeps places shows f old new narrow g h sound wide tall
+    drawn_is = lead.drawn_is keeps positions shows f old new narrow g h sound wide tall
 
     drawn_rows : drawn.screen.rows ≡ new.rows
-    drawn_rows = lead.drawn_rows keeps places shows f old new narrow g h sound wide tall
+    drawn_rows = lead.drawn_rows keeps positions shows f old new narrow g h sound wide tall
 
     -- what is printed for the cursor's position
     record Placed : Type 0 where
-      prints : changes_print f drawn (place_and_pen new) ≡ place_prints new
-      still : texts_scroll f drawn (place_and_pen new) ≡ false
+      prints : changes_print f drawn (position_and_pen new) ≡ position_prints new
+      still : texts_scroll f drawn (position_and_pen new) ≡ false
 
-    abbrev place_alone : List ChangeValue
-    place_alone = CursorPosition (Absolute new.column) (Absolute new.row) ∷ AllAttributes new.pen ∷ []
+    abbrev position_alone : List ChangeValue
+    position_alone = CursorPosition (Absolute new.column) (Absolute new.row) ∷ AllAttributes new.pen ∷ []
 
     abbrev again : Option VisibleCell → List ChangeValue
     again o = written_again new o
@@ -250,11 +250,11 @@ module _ (keeps : DifferencesKeepOthers) (places : RegionsHavePlaces) (shows : S
         let row : Row = cursor_row new in
         let in_rows : new.row < length new.rows = h.lawful.row_in in
         let even : length row ≡ new.width = h.lawful.even new.row [] in_rows in
-        let width : drawn.screen.width ≡ new.width = lead.drawn_wide keeps places shows f old new narrow g h sound wide tall in
+        let width : drawn.screen.width ≡ new.width = lead.drawn_wide keeps positions shows f old new narrow g h sound wide tall in
         let count : length row ≡ length end.before + length (cell_columns v) = ap length end.same ∙ length-append end.before (cell_columns v) in
         let at = end.column in
         let fills = end.fills in
-        let placed : HavePlaces f drawn.screen.width (height drawn.screen) (c ∷ []) = (
+        let placed : HavePositions f drawn.screen.width (height drawn.screen) (c ∷ []) = (
           record {
             some = end.some;
             most = end.most;
@@ -277,8 +277,8 @@ module _ (keeps : DifferencesKeepOthers) (places : RegionsHavePlaces) (shows : S
               ∙ still_join f drawn (difference (c ∷ [])) (AllAttributes new.pen ∷ []) (calm f drawn (c ∷ []) drawn_is placed) refl,
         )
 
-    place_printed : Placed
-    place_printed =
+    position_printed : Placed
+    position_printed =
         let there : List ChangeValue = again (last_cell (cursor_row new)) in
         by_test (new.column == new.width)
         (λ e.
@@ -287,12 +287,12 @@ module _ (keeps : DifferencesKeepOthers) (places : RegionsHavePlaces) (shows : S
         let some = h.lawful.wide_enough in
         let p = written_prints (last_cell_is f 0 (cursor_row new) (omega (arith, even, some)) (h.whole new.row [] in_rows) (sound new.row [] in_rows)) in
         record {
-          prints = ap (λ b. changes_print f drawn (if b then there else place_alone)) e ∙ p.0 ∙ sym (ap (λ b. if b then print_again new (last_cell (cursor_row new)) else []) e);
-          still = ap (λ b. texts_scroll f drawn (if b then there else place_alone)) e ∙ p.1;
+          prints = ap (λ b. changes_print f drawn (if b then there else position_alone)) e ∙ p.0 ∙ sym (ap (λ b. if b then print_again new (last_cell (cursor_row new)) else []) e);
+          still = ap (λ b. texts_scroll f drawn (if b then there else position_alone)) e ∙ p.1;
         })
         (λ e. record {
-          prints = ap (λ b. changes_print f drawn (if b then there else place_alone)) e ∙ sym (ap (λ b. if b then print_again new (last_cell (cursor_row new)) else []) e);
-          still = ap (λ b. texts_scroll f drawn (if b then there else place_alone)) e;
+          prints = ap (λ b. changes_print f drawn (if b then there else position_alone)) e ∙ sym (ap (λ b. if b then print_again new (last_cell (cursor_row new)) else []) e);
+          still = ap (λ b. texts_scroll f drawn (if b then there else position_alone)) e;
         })
 
     abbrev cells : List PlacedCell
@@ -301,20 +301,20 @@ module _ (keeps : DifferencesKeepOthers) (places : RegionsHavePlaces) (shows : S
     abbrev seen_last : List ChangeValue
     seen_last = CursorVisibility (visibility new.visible) ∷ []
 
-    fresh_places : HavePlaces f titled.screen.width (height titled.screen) cells
-    fresh_places = lead.fresh_places keeps places shows f old new narrow g h sound wide tall
+    fresh_positions : HavePositions f titled.screen.width (height titled.screen) cells
+    fresh_positions = lead.fresh_positions keeps positions shows f old new narrow g h sound wide tall
 
     titled_is : IsDisplay titled
-    titled_is = lead.titled_is keeps places shows f old new narrow g h sound wide tall
+    titled_is = lead.titled_is keeps positions shows f old new narrow g h sound wide tall
 
-    pub patch_prints : changes_print f (display_on old) (patch_changes old new) ≡ map text_of cells ++ place_prints new
+    pub patch_prints : changes_print f (display_on old) (patch_changes old new) ≡ map text_of cells ++ position_prints new
     patch_prints =
-        join f titled (difference cells ++ place_and_pen new) seen_last
-        ∙ append-nil (changes_print f titled (difference cells ++ place_and_pen new))
-        ∙ join f titled (difference cells) (place_and_pen new)
-        ∙ (λ i. print f titled cells titled_is fresh_places i ++ place_printed.prints i)
+        join f titled (difference cells ++ position_and_pen new) seen_last
+        ∙ append-nil (changes_print f titled (difference cells ++ position_and_pen new))
+        ∙ join f titled (difference cells) (position_and_pen new)
+        ∙ (λ i. print f titled cells titled_is fresh_positions i ++ position_printed.prints i)
 
     pub patch_still : texts_scroll f (display_on old) (patch_changes old new) ≡ false
     patch_still =
-        still_join f titled (difference cells ++ place_and_pen new) seen_last
-        (still_join f titled (difference cells) (place_and_pen new) (calm f titled cells titled_is fresh_places) place_printed.still) refl
+        still_join f titled (difference cells ++ position_and_pen new) seen_last
+        (still_join f titled (difference cells) (position_and_pen new) (calm f titled cells titled_is fresh_positions) position_printed.still) refl

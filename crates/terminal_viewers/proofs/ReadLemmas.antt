@@ -17,7 +17,7 @@ use Rattle.screen_effects.specs.WrittenCells.{IsSoundDisplay}
 use Rattle.terminal_viewers.specs.Patch.{patch_changes}
 use Rattle.terminal_viewers.specs.Reading.{CanReadPatch, PatchesAreShown, PatchesArePlain, PatchesLeaveIdle, PatchesPrintFreshCells, patch_for}
 use Rattle.terminal_viewers.proofs.ActionLemmas.{Sends, events_append, plain_append, read_prints}
-use Rattle.terminal_viewers.proofs.LeadLemmas.{DifferencesKeepOthers, RegionsHavePlaces, ScreensAreShown}
+use Rattle.terminal_viewers.proofs.LeadLemmas.{DifferencesKeepRest, RegionsHavePositions, ScreensAreShown}
 use Rattle.terminal_viewers.proofs.PrintLemmas.{DifferencesAreStill, DifferencesPrintCells, PrintsJoin, StillJoin, changes_send, patch_is, patch_prints, patch_still}
 use Rattle.terminal_table.specs.Prints.{ArePlainEvents, events_print, prints}
 use Rattle.terminal_render.specs.Effects.{actions_done}
@@ -65,7 +65,7 @@ module _ (leads : PatchesLead) (spells : PatchesHaveSpellings) (writes : Spelled
 
   -- ---- what is printed
 
-  module _ (keeps : DifferencesKeepOthers) (places : RegionsHavePlaces) (shows : ScreensAreShown) (print : DifferencesPrintCells) (calm : DifferencesAreStill) (join : PrintsJoin) (still_join : StillJoin)
+  module _ (keeps : DifferencesKeepRest) (positions : RegionsHavePositions) (shows : ScreensAreShown) (print : DifferencesPrintCells) (calm : DifferencesAreStill) (join : PrintsJoin) (still_join : StillJoin)
       (whole : (stream : List ℕ) → held_of stream ≡ nothing_held → tail_of stream ≡ Begun []) (reads : WritableListsReadOn) (idles : PatchesLeaveIdle) where
     module _ (f : List ℕ → ℕ) (viewer : View) (screen : Screen) (can : CanReadPatch f viewer screen) where
       abbrev old : Screen
@@ -86,7 +86,7 @@ module _ (leads : PatchesLead) (spells : PatchesHaveSpellings) (writes : Spelled
       encode : Sends f viewer s.actions texts
       encode =
           changes_send f viewer (display_on old) changes s.actions can.ready shown refl (patch_is old screen shown can.display can.wide can.spelled)
-          (patch_still keeps places shows print calm join still_join f old screen can.narrow shown can.display can.sound can.wide can.tall) s.rendered
+          (patch_still keeps positions shows print calm join still_join f old screen can.narrow shown can.display can.sound can.wide can.tall) s.rendered
 
       read_back : (events_print f viewer (map Act (read_form s.actions)) ≡ texts) × ArePlainEvents f viewer (map Act (read_form s.actions))
       read_back = read_prints f s.actions viewer texts encode
@@ -125,7 +125,7 @@ module _ (leads : PatchesLead) (spells : PatchesHaveSpellings) (writes : Spelled
     pub patch_prints_fresh : PatchesPrintFreshCells
     patch_prints_fresh f viewer screen can =
         fresh_printed f viewer screen can
-        ∙ patch_prints keeps places shows print calm join still_join f viewer.state.screen screen can.narrow (display_on_is viewer.state can.ready.lawful) can.display can.sound can.wide can.tall
+        ∙ patch_prints keeps positions shows print calm join still_join f viewer.state.screen screen can.narrow (display_on_is viewer.state can.ready.lawful) can.display can.sound can.wide can.tall
 
     pub patch_is_plain : PatchesArePlain
     patch_is_plain f viewer screen can = plain_read f viewer screen can

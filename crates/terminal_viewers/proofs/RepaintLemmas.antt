@@ -17,7 +17,7 @@ use Rattle.cell_base.specs.Screen.{Screen, IsScreen, height}
 use Rattle.screen_change.specs.CellChanges.{attributes_due, runs_written, cells_written, clear_due}
 use Rattle.screen_change.specs.CellRuns.{CellRun, before_runs, cell_runs, is_blank_of, background_at_end, less_blanks}
 use Rattle.screen_change.specs.ChangeValue.{ChangeValue, AllAttributes, Text, ClearScreen, ClearToEndOfLine, ClearToEndOfScreen, CursorPosition, CursorVisibility, Title}
-use Rattle.screen_change.specs.Texts.{stay_apart, texts}
+use Rattle.screen_change.specs.Texts.{stay_independent, texts}
 use Rattle.cell_base.specs.UpToLast.{up_to_last}
 use Rattle.cell_edits.specs.VisibleCells.{visible_from, contents}
 use Rattle.escape_framing.proofs.Existence.Utf8Lemmas.{order}
@@ -25,7 +25,7 @@ use Rattle.screen_effects.specs.Display.{Display, IsDisplay}
 use Rattle.screen_repaint.specs.Repaint.{pen_left, row_cells, go_with_blanks, end_cleared, row_painted, in_next_row, rows_painted, are_some, cursor_placed, cursor_shown, title_due, repaint}
 use Rattle.terminal_render.specs.Spelling.{IsSpelledColor, IsSpelledPen, IsSpelledRun, IsSpelledRow, IsSpelledScreen, HasSpelling, HaveSpellings, IsLeftOut, HaveOtherSpellings}
 use Rattle.terminal_render.proofs.TextLemmas.{AreSpelledRuns, run_append, run_nil}
-use Rattle.terminal_render.proofs.ChangeLemmas.{has_spelling, spellings_append, place_some}
+use Rattle.terminal_render.proofs.ChangeLemmas.{has_spelling, spellings_append, coordinate_some}
 
 -- ---- cells
 
@@ -57,8 +57,8 @@ background_from start (cell ∷ cells) h p =
     background_from (if is_blank_of cell.attributes.background cell then Some cell.attributes.background else None) cells
     (cond_both (is_blank_of cell.attributes.background cell) _ _ IsSpelledOption (λ e. p.0.1.background) (λ e. tt)) p.1
 
-background_told : (cells : List CellContent) → AreSpelledCells cells → IsSpelledOption (background_at_end cells)
-background_told cells p = background_from None cells tt p
+background_spelled : (cells : List CellContent) → AreSpelledCells cells → IsSpelledOption (background_at_end cells)
+background_spelled cells p = background_from None cells tt p
 
 -- ---- runs
 
@@ -69,7 +69,7 @@ concat_spelled (t ∷ ts) p = run_append t (concat ts) p.0 (concat_spelled ts p.
 pub texts_spelled : (cells : List (List ℕ)) → AreSpelledRuns cells → AreSpelledRuns (texts cells)
 unfolding texts
 texts_spelled [] p = tt
-texts_spelled (cell ∷ cells) p = cond_both (stay_apart (cell ∷ cells)) _ _ AreSpelledRuns (λ e. (concat_spelled (cell ∷ cells) p, tt)) (λ e. p)
+texts_spelled (cell ∷ cells) p = cond_both (stay_independent (cell ∷ cells)) _ _ AreSpelledRuns (λ e. (concat_spelled (cell ∷ cells) p, tt)) (λ e. p)
 
 abbrev pub AreSpelledCellRuns : List CellRun → Type 0
 AreSpelledCellRuns = AllByRecursion (λ run. IsSpelledPen run.attributes × AreSpelledRuns run.cells)
@@ -118,11 +118,11 @@ module _ (width tall : ℕ) (some : 0 < width) where
       let background = background_at_end cells in
       spellings_append width tall (cells_written pen (less_blanks background cells)) (end_cleared background below_too)
       (runs_sent pen (cell_runs (less_blanks background cells)) (runs_spelled (less_blanks background cells) (less_spelled background cells p)))
-      (end_sent background below_too (background_told cells p))
+      (end_sent background below_too (background_spelled cells p))
 
   next_sent : (changes : List ChangeValue) → Sent changes → Sent (in_next_row changes)
   next_sent [] p = tt
-  next_sent (change ∷ changes) p = (has_spelling width tall (CursorPosition (Absolute 0) (Relative (pos 1))) tt (place_some width tall 0 (Relative (pos 1)) some) tt, p)
+  next_sent (change ∷ changes) p = (has_spelling width tall (CursorPosition (Absolute 0) (Relative (pos 1))) tt (coordinate_some width tall 0 (Relative (pos 1)) some) tt, p)
 
   pub rows_sent : (pen : Attributes) (rows : List Row) → All IsSpelledRow rows → Sent (rows_painted pen rows)
   rows_sent pen [] p = tt
@@ -139,20 +139,20 @@ module _ (width tall : ℕ) (some : 0 < width) where
 
 -- ---- but for the place of a pending wrap and the cursor's shape
 
-others_append : (s : Screen) (xs ys : List ChangeValue) → HaveOtherSpellings s xs → HaveOtherSpellings s ys → HaveOtherSpellings s (xs ++ ys)
-others_append s [] ys p q = q
-others_append s (x ∷ xs) ys p q = (p.0, others_append s xs ys p.1 q)
+rest_append : (s : Screen) (xs ys : List ChangeValue) → HaveOtherSpellings s xs → HaveOtherSpellings s ys → HaveOtherSpellings s (xs ++ ys)
+rest_append s [] ys p q = q
+rest_append s (x ∷ xs) ys p q = (p.0, rest_append s xs ys p.1 q)
 
-all_others : (s : Screen) (xs : List ChangeValue) → HaveSpellings s.width (height s) xs → HaveOtherSpellings s xs
-all_others s [] p = tt
-all_others s (x ∷ xs) p = (inl p.0, all_others s xs p.1)
+all_rest : (s : Screen) (xs : List ChangeValue) → HaveSpellings s.width (height s) xs → HaveOtherSpellings s xs
+all_rest s [] p = tt
+all_rest s (x ∷ xs) p = (inl p.0, all_rest s xs p.1)
 
 -- what stands before the cursor's position: a clear with the cursor hidden, the title, and the rows
-abbrev front_of : Display → List ChangeValue
-front_of d = (CursorVisibility Hidden ∷ ClearScreen attribute.Default ∷ []) ++ title_due d.screen.title ++ rows_painted plain d.screen.rows
+abbrev prefix_of : Display → List ChangeValue
+prefix_of d = (CursorVisibility Hidden ∷ ClearScreen attribute.Default ∷ []) ++ title_due d.screen.title ++ rows_painted plain d.screen.rows
 
-front_sent : (d : Display) → IsDisplay d → IsSpelledScreen d.screen → HaveSpellings d.screen.width (height d.screen) (front_of d)
-front_sent d h p =
+prefix_sent : (d : Display) → IsDisplay d → IsSpelledScreen d.screen → HaveSpellings d.screen.width (height d.screen) (prefix_of d)
+prefix_sent d h p =
     let w = d.screen.width in
     let n = height d.screen in
     let begin = CursorVisibility Hidden ∷ ClearScreen attribute.Default ∷ [] in
@@ -165,7 +165,7 @@ front_sent d h p =
 pub placed_sent : (width tall : ℕ) (painted : Bool) (column row : ℕ) → column < width → HaveSpellings width tall (cursor_placed painted column row)
 placed_sent width tall painted column row h =
     cond_both (not painted && (column == 0 && row == 0)) _ _ (HaveSpellings width tall) (λ e. tt)
-    (λ e. (has_spelling width tall (CursorPosition (Absolute column) (Absolute row)) tt (place_some width tall column (Absolute row) h) tt, tt))
+    (λ e. (has_spelling width tall (CursorPosition (Absolute column) (Absolute row)) tt (coordinate_some width tall column (Absolute row) h) tt, tt))
 
 pub shown_sent : (width tall : ℕ) (visible : Bool) → HaveSpellings width tall (cursor_shown visible None)
 shown_sent width tall true = (has_spelling width tall (CursorVisibility Visible) tt tt tt, tt)
@@ -177,17 +177,17 @@ repaint_sent d h p c e =
     let painted = rows_painted plain s.rows in
     let placed = cursor_placed (are_some painted) s.column s.row in
     let due = attributes_due (pen_left plain painted) s.pen in
-    spellings_append s.width (height s) (front_of d ++ placed ++ due) (cursor_shown s.visible d.shape)
-    (spellings_append s.width (height s) (front_of d ++ placed) due
-    (spellings_append s.width (height s) (front_of d) placed (front_sent d h p) (placed_sent s.width (height s) (are_some painted) s.column s.row c))
+    spellings_append s.width (height s) (prefix_of d ++ placed ++ due) (cursor_shown s.visible d.shape)
+    (spellings_append s.width (height s) (prefix_of d ++ placed) due
+    (spellings_append s.width (height s) (prefix_of d) placed (prefix_sent d h p) (placed_sent s.width (height s) (are_some painted) s.column s.row c))
     (due_sent s.width (height s) h.lawful.wide_enough (pen_left plain painted) s.pen p.pen))
     (subst (λ shape. HaveSpellings s.width (height s) (cursor_shown s.visible shape)) (sym e) (shown_sent s.width (height s) s.visible))
 
-place_or : (s : Screen) (painted : Bool) → IsScreen s → HaveOtherSpellings s (cursor_placed painted s.column s.row)
-place_or s painted h = cond_both (not painted && (s.column == 0 && s.row == 0)) _ _ (HaveOtherSpellings s) (λ e. tt) (λ e. (either (order s.column s.width), tt))
+position_or : (s : Screen) (painted : Bool) → IsScreen s → HaveOtherSpellings s (cursor_placed painted s.column s.row)
+position_or s painted h = cond_both (not painted && (s.column == 0 && s.row == 0)) _ _ (HaveOtherSpellings s) (λ e. tt) (λ e. (either (order s.column s.width), tt))
   where
     either : (s.column < s.width) ⊎ (s.width ≤ s.column) → HasSpelling s.width (height s) (CursorPosition (Absolute s.column) (Absolute s.row)) ⊎ IsLeftOut s (CursorPosition (Absolute s.column) (Absolute s.row))
-    either (inl l) = inl (has_spelling s.width (height s) (CursorPosition (Absolute s.column) (Absolute s.row)) tt (place_some s.width (height s) s.column (Absolute s.row) l) tt)
+    either (inl l) = inl (has_spelling s.width (height s) (CursorPosition (Absolute s.column) (Absolute s.row)) tt (coordinate_some s.width (height s) s.column (Absolute s.row) l) tt)
     either (inr l) = let k = h.column_in in inr (inl (omega arith, refl))
 
 shape_or : (s : Screen) (visible : Bool) (shape : Option Shape) → HaveOtherSpellings s (cursor_shown visible shape)
@@ -195,14 +195,14 @@ shape_or s true None = (inl (has_spelling s.width (height s) (CursorVisibility V
 shape_or s true (Some shape) = (inl (has_spelling s.width (height s) (CursorVisibility Visible) tt tt tt), (inr (inr (shape, refl)), tt))
 shape_or s false shape = tt
 
-pub repaint_others : (d : Display) → IsDisplay d → IsSpelledScreen d.screen → HaveOtherSpellings d.screen (repaint d)
-repaint_others d h p =
+pub repaint_rest : (d : Display) → IsDisplay d → IsSpelledScreen d.screen → HaveOtherSpellings d.screen (repaint d)
+repaint_rest d h p =
     let s = d.screen in
     let painted = rows_painted plain s.rows in
     let placed = cursor_placed (are_some painted) s.column s.row in
     let due = attributes_due (pen_left plain painted) s.pen in
-    others_append s (front_of d ++ placed ++ due) (cursor_shown s.visible d.shape)
-    (others_append s (front_of d ++ placed) due
-    (others_append s (front_of d) placed (all_others s (front_of d) (front_sent d h p)) (place_or s (are_some painted) h.lawful))
-    (all_others s due (due_sent s.width (height s) h.lawful.wide_enough (pen_left plain painted) s.pen p.pen)))
+    rest_append s (prefix_of d ++ placed ++ due) (cursor_shown s.visible d.shape)
+    (rest_append s (prefix_of d ++ placed) due
+    (rest_append s (prefix_of d) placed (all_rest s (prefix_of d) (prefix_sent d h p)) (position_or s (are_some painted) h.lawful))
+    (all_rest s due (due_sent s.width (height s) h.lawful.wide_enough (pen_left plain painted) s.pen p.pen)))
     (shape_or s s.visible d.shape)

@@ -7,30 +7,30 @@ use Rattle.terminal_table.specs.Replies as view
 use Rattle.terminal_table.proofs.ReplyLemmas.{after_with, logged_with_taken}
 use Rattle.terminal_viewers.specs.Updates.{Standing, standing_after}
 
-abbrev with_front : List ℕ → Standing → Standing
-with_front taken s = record s { view = view.with_taken taken s.view }
+abbrev with_prefix : List ℕ → Standing → Standing
+with_prefix taken s = record s { view = view.with_taken taken s.view }
 
 module _ (width_of : List ℕ → ℕ) (taken : List ℕ) where
-  standing_with : (s : Standing) (history : History) → standing_after width_of (with_front taken s) history ≡ with_front taken (standing_after width_of s history)
+  standing_with : (s : Standing) (history : History) → standing_after width_of (with_prefix taken s) history ≡ with_prefix taken (standing_after width_of s history)
   standing_with s history = λ i. record {
     view = after_with width_of taken s.view history i;
     log = fold step_of_kept s.log (logged_with_taken width_of taken s.view history i);
   }
 
-  answered_with : (answer : Answer) (viewer : Viewer) (one : Standing) → answered width_of answer viewer (with_front taken one) ≡ answered width_of answer viewer one
+  answered_with : (answer : Answer) (viewer : Viewer) (one : Standing) → answered width_of answer viewer (with_prefix taken one) ≡ answered width_of answer viewer one
   answered_with Update viewer one = refl
   answered_with Patch viewer one = refl
 
-  readings_with : (answer : Answer) (viewer : Viewer) (one : Standing) → readings width_of answer viewer (with_front taken one) ≡ readings width_of answer viewer one
+  readings_with : (answer : Answer) (viewer : Viewer) (one : Standing) → readings width_of answer viewer (with_prefix taken one) ≡ readings width_of answer viewer one
   readings_with Update viewer one = refl
   readings_with Patch viewer one = refl
 
-  answering_with : (answer : Answer) (at : ℕ) (one : Standing) (viewers : List Viewer) → answering width_of answer at (with_front taken one) viewers ≡ with_taken taken (answering width_of answer at one viewers)
+  answering_with : (answer : Answer) (at : ℕ) (one : Standing) (viewers : List Viewer) → answering width_of answer at (with_prefix taken one) viewers ≡ with_taken taken (answering width_of answer at one viewers)
   answering_with answer at one [] = refl
   answering_with answer zero one (viewer ∷ viewers) =
       ap (λ (looked : Standing). record { terminal = looked; viewers = answered width_of answer viewer looked ∷ lagging (readings width_of answer viewer looked) viewers }) (standing_with one (Look ∷ []))
       ∙ (λ i. record {
-        terminal = with_front taken (standing_after width_of one (Look ∷ []));
+        terminal = with_prefix taken (standing_after width_of one (Look ∷ []));
         viewers = answered_with answer viewer (standing_after width_of one (Look ∷ [])) i ∷ lagging (readings_with answer viewer (standing_after width_of one (Look ∷ [])) i) viewers;
       })
   answering_with answer (suc at) one (viewer ∷ viewers) = refl

@@ -10,12 +10,12 @@ use Rattle.screen_difference.specs.FreshCells.{screen_fresh}
 use Rattle.screen_effects.specs.Display.{Display, IsDisplay}
 use Rattle.screen_effects.specs.Effect.{is_visible}
 use Rattle.terminal_viewers.proofs.PatchSpellLemmas.{patch_has}
-use Rattle.terminal_viewers.specs.Patch.{patch_changes, patch_of, place_and_pen}
+use Rattle.terminal_viewers.specs.Patch.{patch_changes, patch_of, position_and_pen}
 use Rattle.terminal_render.specs.Spelling.{HasSpelling, HaveSpellings, IsSpelledScreen}
 use Rattle.terminal_table.specs.Changes.{visibility}
 use Rattle.terminal_viewers.specs.Encoding.{encoded_text, encoded_texts}
 use Rattle.terminal_viewers.specs.Update.{bytes_of}
-use Rattle.terminal_viewers.proofs.EncodedLemmas.{all_are_sent, spellings_after, spellings_front, texts_are}
+use Rattle.terminal_viewers.proofs.EncodedLemmas.{all_are_sent, spellings_after, spellings_prefix, texts_are}
 use Rattle.terminal_viewers.proofs.UpdateLemmas.{on_display}
 
 -- a cursor that is visible or not
@@ -41,17 +41,17 @@ module _ (old new : Screen) (width tall : ℕ) (w : width ≡ new.width) (t : ta
   pub title_has : HasSpelling width tall (Title new.title)
   title_has = here.0
 
-  prefix : HaveSpellings width tall (cells ++ place_and_pen new)
-  prefix = spellings_front width tall (cells ++ place_and_pen new) (seen ∷ []) here.1
+  prefix : HaveSpellings width tall (cells ++ position_and_pen new)
+  prefix = spellings_prefix width tall (cells ++ position_and_pen new) (seen ∷ []) here.1
 
   pub cells_have : HaveSpellings width tall cells
-  cells_have = spellings_front width tall cells (place_and_pen new) prefix
+  cells_have = spellings_prefix width tall cells (position_and_pen new) prefix
 
-  pub place_has : HaveSpellings width tall (place_and_pen new)
-  place_has = spellings_after width tall cells (place_and_pen new) prefix
+  pub position_has : HaveSpellings width tall (position_and_pen new)
+  position_has = spellings_after width tall cells (position_and_pen new) prefix
 
   pub seen_has : HasSpelling width tall seen
-  seen_has = (spellings_after width tall (cells ++ place_and_pen new) (seen ∷ []) here.1).0
+  seen_has = (spellings_after width tall (cells ++ position_and_pen new) (seen ∷ []) here.1).0
 
   abbrev text : ChangeValue → List ℕ
   text change = encoded_text width tall change
@@ -60,15 +60,15 @@ module _ (old new : Screen) (width tall : ℕ) (w : width ≡ new.width) (t : ta
   sent changes = encoded_texts width tall changes
 
   -- the bytes after each part
-  pub patch_sent : (start titled drawn placed made : List ℕ) → start ≡ [] → titled ≡ start ++ text (Title new.title) → drawn ≡ titled ++ sent cells → placed ≡ drawn ++ sent (place_and_pen new) → made ≡ placed ++ text seen
+  pub patch_sent : (start titled drawn placed made : List ℕ) → start ≡ [] → titled ≡ start ++ text (Title new.title) → drawn ≡ titled ++ sent cells → placed ≡ drawn ++ sent (position_and_pen new) → made ≡ placed ++ text seen
       → made ≡ patch_of old new
   patch_sent start titled drawn placed made none a b c d =
       d
-      ∙ ap (λ bytes. bytes ++ text seen) (c ∙ ap (λ bytes. bytes ++ sent (place_and_pen new)) (b ∙ ap (λ bytes. bytes ++ sent cells) (a ∙ ap (λ bytes. bytes ++ text (Title new.title)) none)))
-      ∙ ap (λ bytes. bytes ++ text seen) (append_assoc (text (Title new.title)) (sent cells) (sent (place_and_pen new)))
-      ∙ append_assoc (text (Title new.title)) (sent cells ++ sent (place_and_pen new)) (text seen)
+      ∙ ap (λ bytes. bytes ++ text seen) (c ∙ ap (λ bytes. bytes ++ sent (position_and_pen new)) (b ∙ ap (λ bytes. bytes ++ sent cells) (a ∙ ap (λ bytes. bytes ++ text (Title new.title)) none)))
+      ∙ ap (λ bytes. bytes ++ text seen) (append_assoc (text (Title new.title)) (sent cells) (sent (position_and_pen new)))
+      ∙ append_assoc (text (Title new.title)) (sent cells ++ sent (position_and_pen new)) (text seen)
       ∙ ap (λ bytes. text (Title new.title) ++ bytes)
-      ((λ i. sym (flat_map-append text cells (place_and_pen new)) i ++ sym (append-nil (text seen)) i) ∙ sym (flat_map-append text (cells ++ place_and_pen new) (seen ∷ [])))
+      ((λ i. sym (flat_map-append text cells (position_and_pen new)) i ++ sym (append-nil (text seen)) i) ∙ sym (flat_map-append text (cells ++ position_and_pen new) (seen ∷ [])))
       ∙ (λ i. encoded_texts (w i) (t i) (patch_changes old new))
       ∙ sym (texts_are new.width (height new) (patch_changes old new))
       ∙ sym (ap bytes_of (all_are_sent new.width (height new) (patch_changes old new) h))

@@ -18,11 +18,11 @@ use Rattle.screen_effects.specs.Display.{IsDisplay}
 use Rattle.screen_effects.specs.Effect.{cursor_row}
 use Rattle.screen_repaint.specs.Repaint.{are_some, cursor_shown, pen_left}
 use Rattle.terminal_render.specs.Spelling.{HaveSpellings, IsSpelledPen, IsSpelledRow, IsSpelledRun, IsSpelledScreen}
-use Rattle.terminal_render.proofs.ChangeLemmas.{has_spelling, place_some, spellings_append}
+use Rattle.terminal_render.proofs.ChangeLemmas.{has_spelling, coordinate_some, spellings_append}
 use Rattle.terminal_render.proofs.LogLemmas.{due_has}
 use Rattle.terminal_viewers.proofs.RepaintLemmas.{due_sent, placed_sent, rows_sent, shown_sent}
 use Rattle.terminal_viewers.specs.Update.{display_on, due_or, last_cell, painted_anew, as_sent, update_changes, written_again}
-use Rattle.terminal_viewers.proofs.PaintLemmas.{due_of, front_of, painted_rows, place_of, sent_here, sent_is, sent_there}
+use Rattle.terminal_viewers.proofs.PaintLemmas.{due_of, prefix_of, painted_rows, position_of, sent_here, sent_is, sent_there}
 
 -- ---- the last cell of a row
 
@@ -42,14 +42,14 @@ written_sent s p None q = tt
 written_sent s p (Some v) q =
     let w = s.width in
     let n = height s in (
-      has_spelling w n (CursorPosition (Absolute v.column) (Absolute s.row)) tt (place_some w n v.column (Absolute s.row) q.2) tt,
+      has_spelling w n (CursorPosition (Absolute v.column) (Absolute s.row)) tt (coordinate_some w n v.column (Absolute s.row) q.2) tt,
       (has_spelling w n (AllAttributes v.cell.attributes) q.1 tt tt, (has_spelling w n (Text v.cell.text) q.0.spelled tt (inl q.0.printed), (has_spelling w n (AllAttributes s.pen) p.pen tt tt, tt))),
     )
 
 -- ---- the screen painted anew
 
-place_sent : (s : Screen) → IsScreen s → IsSpelledScreen s → HaveSpellings s.width (height s) (flat_map (as_sent s) (place_of s))
-place_sent s h p =
+position_sent : (s : Screen) → IsScreen s → IsSpelledScreen s → HaveSpellings s.width (height s) (flat_map (as_sent s) (position_of s))
+position_sent s h p =
     by_test (s.column == s.width)
     (λ e.
     let row : Row = cursor_row s in
@@ -66,15 +66,15 @@ painted_has s d p =
     let w = s.width in
     let n = height s in
     let h : IsScreen s = d.lawful in
-    let place : List ChangeValue = flat_map (as_sent s) (place_of s) in
+    let position : List ChangeValue = flat_map (as_sent s) (position_of s) in
     let begin : HaveSpellings w n ((CursorVisibility Hidden ∷ ClearScreen attribute.Default ∷ []) ++ (Title s.title ∷ [])) =
     (has_spelling w n (CursorVisibility Hidden) tt tt tt, (has_spelling w n (ClearScreen attribute.Default) tt tt tt, (has_spelling w n (Title s.title) p.title tt tt, tt))) in
-    let prefix : HaveSpellings w n (front_of s) =
+    let prefix : HaveSpellings w n (prefix_of s) =
     spellings_append w n ((CursorVisibility Hidden ∷ ClearScreen attribute.Default ∷ []) ++ (Title s.title ∷ [])) (painted_rows s) begin (rows_sent w n h.wide_enough plain s.rows p.rows) in
     subst (HaveSpellings w n) (sym (sent_is s h.wide_enough))
-    (spellings_append w n (front_of s ++ place ++ due_of s) (cursor_shown s.visible None)
-    (spellings_append w n (front_of s ++ place) (due_of s)
-    (spellings_append w n (front_of s) place prefix (place_sent s h p))
+    (spellings_append w n (prefix_of s ++ position ++ due_of s) (cursor_shown s.visible None)
+    (spellings_append w n (prefix_of s ++ position) (due_of s)
+    (spellings_append w n (prefix_of s) position prefix (position_sent s h p))
     (due_sent w n h.wide_enough (pen_left plain (painted_rows s)) s.pen p.pen))
     (shown_sent w n s.visible))
 

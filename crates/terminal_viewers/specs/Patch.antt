@@ -14,8 +14,8 @@ use Rattle.terminal_viewers.specs.Update.{bytes_of, last_cell, written_again}
 
 -- The cursor's position and the pen. Nothing but a character leads after the last column: where a wrap is pending the
 -- last visible cell of the cursor's row is written once more, and the pen after it.
-abbrev pub place_and_pen : Screen → List ChangeValue
-place_and_pen screen =
+abbrev pub position_and_pen : Screen → List ChangeValue
+position_and_pen screen =
     if screen.column == screen.width then written_again screen (last_cell (cursor_row screen))
     else CursorPosition (Absolute screen.column) (Absolute screen.row) ∷ AllAttributes screen.pen ∷ []
 
@@ -23,17 +23,18 @@ place_and_pen screen =
 -- visible
 abbrev pub patch_changes : Screen → Screen → List ChangeValue
 patch_changes old new =
-    Title new.title ∷ difference (screen_fresh old new) ++ place_and_pen new
+    Title new.title ∷ difference (screen_fresh old new) ++ position_and_pen new
     ++ CursorVisibility (visibility new.visible) ∷ []
 
 -- the patch: the bytes of what is sent for these changes in turn
 abbrev pub patch_of : Screen → Screen → List ℕ
 patch_of old new = bytes_of (all_rendered (patch_changes old new) new.width (height new))
 
--- what is printed for the place of a wrap that is pending: the cell that is written once more, where it stands
+-- what a patch prints for the position of a pending wrap: the cell that it writes once more, at its position
 abbrev pub print_again : Screen → Option VisibleCell → List PlacedText
 print_again screen None = []
 print_again screen (Some v) = record { row = screen.row; column = v.column; text = v.cell.text } ∷ []
 
-abbrev pub place_prints : Screen → List PlacedText
-place_prints screen = if screen.column == screen.width then print_again screen (last_cell (cursor_row screen)) else []
+abbrev pub position_prints : Screen → List PlacedText
+position_prints screen =
+    if screen.column == screen.width then print_again screen (last_cell (cursor_row screen)) else []

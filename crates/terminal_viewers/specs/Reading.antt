@@ -6,7 +6,7 @@ use Rattle.screen_difference.specs.FreshCells.{screen_fresh}
 use Rattle.screen_effects.specs.Display.{IsDisplay}
 use Rattle.screen_difference.specs.Prints.{text_of}
 use Rattle.screen_effects.specs.WrittenCells.{IsSoundDisplay}
-use Rattle.terminal_viewers.specs.Patch.{patch_of, place_prints}
+use Rattle.terminal_viewers.specs.Patch.{patch_of, position_prints}
 use Rattle.terminal_table.specs.Prints.{IsPlain, prints}
 use Rattle.terminal_render.specs.Effects.{IsReady}
 use Rattle.terminal_render.specs.Spelling.{IsSpelledScreen}
@@ -46,7 +46,7 @@ PatchesLeaveIdle = (width_of : List ℕ → ℕ) (viewer : View) (screen : Scree
 abbrev pub PatchesPrintFreshCells : Type 0
 PatchesPrintFreshCells = (width_of : List ℕ → ℕ) (viewer : View) (screen : Screen) → CanReadPatch width_of viewer screen
     → prints width_of viewer (patch_for viewer screen)
-    ≡ map text_of (screen_fresh viewer.state.screen screen) ++ place_prints screen
+    ≡ map text_of (screen_fresh viewer.state.screen screen) ++ position_prints screen
 
 -- nothing but what it prints changes rows, and nothing scrolls
 abbrev pub PatchesArePlain : Type 0

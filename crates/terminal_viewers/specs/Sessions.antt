@@ -9,8 +9,8 @@ use Rattle.terminal_viewers.specs.Updates.{Standing, new_standing, standing_afte
 
 -- ---- viewers
 
--- Where it stands, as a terminal; the number that it holds; and what the one that answers it has gone through since the
--- last answer.
+-- Its standing, as a terminal; the number that it holds; and the history, since the last answer, of the one that
+-- answers it.
 pub record Viewer : Type 0 where
   pub standing : Standing
   pub number : ℕ
@@ -61,7 +61,7 @@ pub record Chain : Type 0 where
   pub terminal : Standing
   pub viewers : List Viewer
 
--- so many new viewers of a terminal's size
+-- `count` new viewers of a terminal's size
 abbrev pub new_chain : Standing → ℕ → Chain
 new_chain terminal count =
     record {
@@ -74,7 +74,7 @@ abbrev pub lagging : History → List Viewer → List Viewer
 lagging history [] = []
 lagging history (viewer ∷ viewers) = record viewer { since = viewer.since ++ history } ∷ viewers
 
--- the viewer is answered that has so many before it, if there is one; the one that answers looks first
+-- the viewer at index `at`, if there is one, gets an answer; the one that answers takes a look first
 abbrev pub answering : (List ℕ → ℕ) → Answer → ℕ → Standing → List Viewer → Chain
 answering width_of answer at one [] = record { terminal = one; viewers = [] }
 answering width_of answer zero one (viewer ∷ viewers) =
@@ -87,7 +87,7 @@ answering width_of answer (suc at) one (viewer ∷ viewers) =
     let remaining = answering width_of answer at viewer.standing viewers in
     record { terminal = one; viewers = record viewer { standing = remaining.terminal } ∷ remaining.viewers }
 
--- the viewer that has so many before it forgets the changes before a number, if there is one
+-- the viewer at index `at`, if there is one, forgets the changes before a number
 abbrev pub forgetting : (List ℕ → ℕ) → ℕ → ℕ → List Viewer → List Viewer
 forgetting width_of number at [] = []
 forgetting width_of number zero (viewer ∷ viewers) =
@@ -97,8 +97,7 @@ forgetting width_of number (suc at) (viewer ∷ viewers) = viewer ∷ forgetting
 
 -- ---- sessions
 
--- the terminal goes on by a step; or the viewer that has so many before it is answered, or forgets the changes before a
--- number
+-- the terminal goes on by a step; or the viewer at an index gets an answer, or forgets the changes before a number
 pub data Turn : Type 0 where
   Goes : Step → Turn
   Answers : ℕ → Answer → Turn

@@ -11,7 +11,7 @@ use Rattle.terminal_table.specs.Turns.{IsView}
 use Rattle.terminal_viewers.specs.Update.{display_on}
 use Rattle.terminal_viewers.specs.Updates.{Standing, standing_after}
 
--- Where a terminal can stand that answers viewers: its state is lawful, of less than 2^32 columns and rows; its cells
+-- The standings of a terminal that answers viewers: its state is lawful, of less than 2^32 columns and rows; its cells
 -- are sound; they, its run and the changes that its log keeps have a spelling; and each of these changes has a number.
 pub record CanAnswer (width_of : List ℕ → ℕ) (s : Standing) : Type 0 where
   pub lawful : IsView s.view
@@ -34,7 +34,7 @@ IsTurn (Goes step) = IsStep step
 IsTurn (Answers at answer) = ⊤
 IsTurn (Forgets at number) = ⊤
 
--- the viewer that has so many before it shows the screen of the one that answers it, if there is such a viewer
+-- the viewer at an index, if there is one, shows the screen of the one that answers it
 abbrev pub IsShown : ℕ → Standing → List Viewer → Type 0
 IsShown at one [] = ⊤
 IsShown zero one (viewer ∷ viewers) = viewer.standing.view.state.screen ≡ one.view.state.screen
@@ -75,7 +75,7 @@ ViewersStay =
     → length (session width_of (new_chain terminal count) turns).viewers ≡ count
 
 -- replies that are taken from the terminal change nothing else of a session, then and later
-abbrev pub RepliesStandApart : Type 0
-RepliesStandApart =
+abbrev pub RepliesAreSeparate : Type 0
+RepliesAreSeparate =
     (width_of : List ℕ → ℕ) (taken : List ℕ) (chain : Chain) (turns : List Turn)
     → session width_of (with_taken taken chain) turns ≡ with_taken taken (session width_of chain turns)

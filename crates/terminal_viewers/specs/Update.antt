@@ -26,7 +26,7 @@ display_on screen = record { screen = screen; sizes = replicate (height screen) 
 abbrev pub last_cell : Row → Option VisibleCell
 last_cell row = fold (λ _ v. Some v) None (visible_cells row)
 
--- a cell of the cursor's row written once more where it stands, and the pen as it was
+-- a cell of the cursor's row written once more at its position, and the pen as it was
 abbrev pub written_again : Screen → Option VisibleCell → List ChangeValue
 written_again screen None = []
 written_again screen (Some v) =

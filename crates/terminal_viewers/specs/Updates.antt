@@ -1,4 +1,4 @@
--- The updates of an input: a new terminal is looked at after each of some number of bytes, and once more at the end.
+-- The updates of an input: a new terminal takes a look after each chunk of a number of bytes, and one at the end.
 use Rattle.std.specs.Prelude.{ℕ, ◌+◌, ◌==◌, List, [], ◌∷◌, ◌++◌, length, if◌then◌else◌}
 use Rattle.std.specs.List.{flat_map}
 use Rattle.screen_log.specs.Log.{most_due, new_log}
@@ -8,8 +8,8 @@ use Rattle.terminal_table.specs.Logged.{log_after}
 use Rattle.terminal_table.specs.Meaning.{View, new_view, after}
 use Rattle.terminal_viewers.specs.Update.{update_of}
 
--- an input in pieces of so many bytes, of which the first has begun; the last one is shorter, and empty where nothing
--- is left for it
+-- an input in chunks of `every` bytes, of which the first begins with `begun`; the last one is shorter, and empty where
+-- nothing is left for it
 abbrev pub in_pieces : ℕ → List ℕ → List ℕ → List (List ℕ)
 in_pieces every begun [] = begun ∷ []
 in_pieces every begun (byte ∷ input) =
@@ -20,7 +20,7 @@ in_pieces every begun (byte ∷ input) =
 abbrev pub looks : List (List ℕ) → History
 looks pieces = flat_map (λ piece. Piece piece ∷ Look ∷ []) pieces
 
--- where a terminal stands: its view, and its log
+-- the standing of a terminal: its view, and its log
 pub record Standing : Type 0 where
   pub view : View
   pub log : Sized

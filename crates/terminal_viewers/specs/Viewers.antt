@@ -119,7 +119,7 @@ AreFed (Look ∷ history) = AreFed history
 AreFed (Resize width height ∷ history) = ⊥
 AreFed (Forget number ∷ history) = ⊥
 
--- two views are the same but for the replies that were not yet taken
+-- two views are equal except for the replies that the host has not yet taken
 pub record AreAlike (one other : View) : Type 0 where
   pub screen : one.state.screen ≡ other.state.screen
   pub saved : one.state.saved ≡ other.state.saved

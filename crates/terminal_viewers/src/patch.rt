@@ -7,7 +7,7 @@ ghost use Rattle.cell_surface.specs.Surface.{shown_by};
 ghost use Rattle.screen_difference.specs.Difference.{difference};
 ghost use Rattle.screen_difference.specs.FreshCells.{screen_fresh};
 ghost use Rattle.screen_effects.specs.Display.{IsDisplay};
-ghost use Rattle.terminal_viewers.specs.Patch.{patch_of, place_and_pen};
+ghost use Rattle.terminal_viewers.specs.Patch.{patch_of, position_and_pen};
 ghost use Rattle.terminal_render.specs.Spelling.{HasSpelling, HaveSpellings};
 ghost use Rattle.terminal_table.specs.Changes.{visibility};
 ghost use Rattle.terminal_viewers.specs.Encodable.{CanBeEncoded};
@@ -36,7 +36,7 @@ fn fresh_cells<W: Widths + Drop>(
 }
 
 // Encodes the cursor's position and the pen.
-fn encode_place_and_pen<W: Widths + Drop>(
+fn encode_position_and_pen<W: Widths + Drop>(
     encoder: &ViewerEncoder,
     bytes: &mut Vec<u8>,
     surface: &Surface<W>,
@@ -44,18 +44,18 @@ fn encode_place_and_pen<W: Widths + Drop>(
     requires stays { surface.now.is_failed ≡ false }
     requires width { encoder.now.width ≡ (shown_by surface.now).screen.width }
     requires spelled { HaveSpellings encoder.now.width encoder.now.height
-        (place_and_pen (shown_by surface.now).screen) }
+        (position_and_pen (shown_by surface.now).screen) }
     ensures { OnOk result
         (bytes.new.items
         ≡ bytes.old.items
-        ++ encoded_texts encoder.now.width encoder.now.height (place_and_pen (shown_by surface.now).screen)) }
+        ++ encoded_texts encoder.now.width encoder.now.height (position_and_pen (shown_by surface.now).screen)) }
 {
     let (column, row) = surface.cursor_position();
     if column == encoder.width {
         encoder.encode_again(bytes, surface)?;
         return Ok(());
     }
-    encoder.encode_place(bytes, column, row)?;
+    encoder.encode_position(bytes, column, row)?;
     encoder.encode_pen(bytes, surface.pen())?;
     Ok(())
 }
@@ -100,7 +100,7 @@ pub fn patch<W: Widths + Drop>(
     let mut bytes = Vec::new(alloc);
     encoder.encode_title(&mut bytes, surface.title())?;
     encoder.encode_all(&mut bytes, &changes)?;
-    encode_place_and_pen(&encoder, &mut bytes, surface)?;
+    encode_position_and_pen(&encoder, &mut bytes, surface)?;
     encode_visibility(&encoder, &mut bytes, surface)?;
     Ok(bytes)
 }

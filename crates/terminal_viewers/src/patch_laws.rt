@@ -31,8 +31,8 @@ pub fn patches_lead_to_the_screen()
     differences_show_the_new_side();
 }
 
-/// Each change of a patch has a spelling at the size of such a screen, where its cells, its pen and its title have
-/// one.
+/// Each change of a patch between two screens of one size has a spelling at that size, where the cells, the pen
+/// and the title of the second have one.
 pub fn patches_have_spellings()
     ensures { (old : Screen) (new : Screen) → IsDisplay (display_on old) → IsDisplay (display_on new)
         → old.width ≡ new.width → height old ≡ height new → IsSpelledScreen new
@@ -52,7 +52,7 @@ pub fn viewers_read_patches()
     patches_lead_to_the_screen();
 }
 
-/// A patch that such a viewer reads prints the cells that it doesn't show, each once, in turn and at its place, and
+/// A patch that such a viewer reads prints the cells that it doesn't show, each once, in turn and at its position, and
 /// after them, exactly where a wrap is pending on the screen, the last visible cell of the cursor's row. Nothing
 /// else that the viewer reads changes its rows, and nothing scrolls.
 pub fn patches_print_the_fresh_cells()

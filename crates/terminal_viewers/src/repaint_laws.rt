@@ -5,8 +5,8 @@ ghost use Rattle.screen_effects.specs.Display.{Display, IsDisplay};
 ghost use Rattle.screen_repaint.specs.Repaint.{repaint};
 ghost use Rattle.terminal_render.specs.Spelling.{HaveOtherSpellings, HaveSpellings, IsSpelledScreen};
 
-/// Each change of a repaint of such a display has a spelling at its size, but for the place of a pending
-/// wrap and a shape of the cursor: so all of them where no wrap is pending and no shape was set.
+/// Each change of a repaint of a display whose screen has a spelling has one at its size, except the position of a
+/// pending wrap and a shape of the cursor: so all of them where no wrap is pending and no shape was set.
 pub fn repaints_have_spellings()
     ensures remaining { (display : Display) → IsDisplay display → IsSpelledScreen display.screen
         → HaveOtherSpellings display.screen (repaint display) }

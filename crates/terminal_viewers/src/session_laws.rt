@@ -1,5 +1,5 @@
 //! Laws of sessions: each is the contract of a function that does nothing.
-ghost use Rattle.terminal_viewers.specs.Showing.{AnswersAreShown, RepliesStandApart, RoundsAreShown};
+ghost use Rattle.terminal_viewers.specs.Showing.{AnswersAreShown, RepliesAreSeparate, RoundsAreShown};
 ghost use Rattle.terminal_viewers.specs.Showing.{TerminalsGoTheirWay, ViewersStay};
 
 use crate::patch_laws::viewers_read_patches;
@@ -24,5 +24,5 @@ pub fn sessions_show_the_screen()
 pub fn sessions_go_on()
     ensures terminal { TerminalsGoTheirWay }
     ensures viewers { ViewersStay }
-    ensures replies { RepliesStandApart }
+    ensures replies { RepliesAreSeparate }
 {}

@@ -1,9 +1,9 @@
-//! The update. Only `terminal` and `patch` call what stands here: it asks for a surface each change of which
-//! can be sent, as only a terminal's is known to be.
+//! The update. Only `terminal` and `patch` call this module: it requires a surface each change of which can be
+//! sent, and only a terminal's is known to be one.
 ghost use Rattle.std.specs.Prelude.{◌≡◌, ◌<◌, ◌^◌, ◌++◌, false, length, map, take, IfOk, OnErr, OnOk};
 ghost use Rattle.std.specs.List.{flat_map};
 ghost use Rattle.std.specs.Option.{option_map};
-ghost use Rattle.cell_base.specs.declared.attributes.Position.TheVariants as place;
+ghost use Rattle.cell_base.specs.declared.attributes.Position.TheVariants as position;
 ghost use Rattle.cell_base.specs.Screen.{height};
 ghost use Rattle.screen_change.specs.ChangeValue.{AllAttributes, CursorPosition, Text, Title};
 ghost use Rattle.screen_change.specs.ValueOf.{value_of};
@@ -58,9 +58,8 @@ fn is_pending(change: &Change, width: usize) -> bool
     }
 }
 
-/// Encodes changes for a viewer of so many columns and rows: the bytes of what is sent for them are
-/// appended, by ECMA-48 and xterm's control sequences. Want of memory is the only refusal; the bytes stay as they
-/// were then.
+/// Encodes changes for a viewer of `width` columns and `height` rows: appends their bytes, by ECMA-48 and
+/// xterm's control sequences. Want of memory is the only refusal; the bytes stay as they were then.
 #[derive(Clone, Copy)]
 pub struct ViewerEncoder {
     alloc: Global,
@@ -145,29 +144,29 @@ impl ViewerEncoder {
     }
 
     /// Encodes a position, whose column and row count from 0.
-    pub fn encode_place(
+    pub fn encode_position(
         &self,
         bytes: &mut Vec<u8>,
         column: usize,
         row: usize,
     ) -> Result<(), AllocError>
         requires { HasSpelling self.now.width self.now.height
-            (CursorPosition (place.Absolute column) (place.Absolute row)) }
+            (CursorPosition (position.Absolute column) (position.Absolute row)) }
         ensures ok { OnOk result
             (bytes.new.items
             ≡ bytes.old.items
             ++ encoded_text self.now.width self.now.height
-            (CursorPosition (place.Absolute column) (place.Absolute row))) }
+            (CursorPosition (position.Absolute column) (position.Absolute row))) }
         ensures refused { OnErr result (bytes.new.items ≡ bytes.old.items) }
     {
-        let place = Change::CursorPosition {
+        let position = Change::CursorPosition {
             x: Position::Absolute(column),
             y: Position::Absolute(row),
         };
-        self.encode(bytes, &place)
+        self.encode(bytes, &position)
     }
 
-    /// Encodes the last cell of the cursor's row once more, where it stands, and then the pen: so a wrap is pending
+    /// Encodes the last cell of the cursor's row once more, at its position, and then the pen: so a wrap is pending
     /// where that cell ends in the last column.
     pub fn encode_again<W: Widths + Drop>(
         &self,
@@ -214,7 +213,7 @@ impl ViewerEncoder {
             return Ok(());
         };
         let (_, row) = surface.cursor_position();
-        self.encode_place(bytes, cell.cell_index(), row)?;
+        self.encode_position(bytes, cell.cell_index(), row)?;
         self.encode_pen(bytes, cell.attrs())?;
         self.encode_text(bytes, cell.str())?;
         self.encode_pen(bytes, surface.pen())?;
@@ -298,8 +297,8 @@ impl ViewerEncoder {
 /// from a clear on, with the title, also an empty one, and with a wrap that is pending, by the last cell
 /// of the cursor's row, which is written once more.
 ///
-/// Want of memory is the only refusal. Changes are lent from the log, and each one's bytes are appended as it is
-/// rendered.
+/// Want of memory is the only refusal. It borrows the changes from the log, and appends each one's bytes as it
+/// renders the change.
 pub fn update<W: Widths + Drop>(
     alloc: Global,
     surface: &Surface<W>,

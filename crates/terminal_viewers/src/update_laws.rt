@@ -23,8 +23,8 @@ pub fn updates_paint_the_screen()
         → (replay width_of other (painted_anew screen)).screen ≡ screen }
 {}
 
-/// Each change that paints such a screen anew has a spelling at its size, and so has each of an update
-/// where those have one that the log keeps.
+/// Each change that paints anew a screen that has a spelling has one at its size, and so has each change of an
+/// update where those that the log keeps have one.
 pub fn updates_have_spellings()
     ensures painted { (screen : Screen) → IsDisplay (display_on screen) → IsSpelledScreen screen
         → HaveSpellings screen.width (height screen) (painted_anew screen) }

@@ -20,10 +20,10 @@ pub fn views_stay_sound()
     one_cut();
 }
 
-/// A screen that shows a terminal's at a number goes on to show it at that number, whatever the terminal
-/// is fed, wherever it is looked at and whatever its log forgets, if it takes on the same sizes in turn:
-/// where changes are due from that number on they lead from the one screen to the other. And each screen
-/// shows itself at the number of its log.
+/// A screen that shows a terminal's at a number goes on to show it at that number, whatever bytes the
+/// terminal reads, wherever it takes a look and whatever its log forgets, if the screen takes on the same sizes
+/// in turn: where changes are due from that number on they lead from the one screen to the other. And each
+/// screen shows itself at the number of its log.
 pub fn viewers_go_on_showing()
     ensures history { ViewersGoOnShowing }
     ensures seen { ScreensShowThemselves }

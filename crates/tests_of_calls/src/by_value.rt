@@ -11,7 +11,7 @@ use std::process::Abort;
 use std::rc::Rc;
 use std::slice;
 
-// An action is the first, and so many are read, of its own bytes.
+// An action's own bytes read as `count` actions, the first of which is that action.
 fn assert_first<R: Abort + AllocGlobal>(rt: &R, action: &Action, count: usize) {
     let bytes = encode(rt.alloc(), slice::from_ref(action)).expect(rt, "memory");
     let mut parser = Parser::new(rt.alloc());
@@ -27,7 +27,7 @@ fn assert_csi<R: Abort + AllocGlobal>(rt: &R, sequence: CSI) {
 
 #[test]
 fn cursors(rt: HostRuntime) {
-    let place = OneBased::new(4_294_967_295);
+    let position = OneBased::new(4_294_967_295);
     let first = OneBased::new(1);
     for cursor in &[
         Cursor::Up(1),
@@ -36,16 +36,16 @@ fn cursors(rt: HostRuntime) {
         Cursor::Left(255),
         Cursor::NextLine(256),
         Cursor::PrecedingLine(1),
-        Cursor::CharacterAbsolute(place),
+        Cursor::CharacterAbsolute(position),
         Cursor::CharacterPositionAbsolute(first),
         Cursor::LinePositionAbsolute(65_536),
         Cursor::Position {
-            line: place,
+            line: position,
             col: first,
         },
         Cursor::CharacterAndLinePosition {
             line: first,
-            col: place,
+            col: position,
         },
         Cursor::ForwardTabulation(3),
         Cursor::BackwardTabulation(4),
@@ -57,7 +57,7 @@ fn cursors(rt: HostRuntime) {
         },
         Cursor::SetLeftAndRightMargins {
             left: OneBased::new(2),
-            right: place,
+            right: position,
         },
         Cursor::SaveCursor,
         Cursor::RestoreCursor,

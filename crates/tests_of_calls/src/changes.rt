@@ -38,13 +38,13 @@ fn copies(rt: HostRuntime) {
         region_size: 2,
         scroll_count: 3,
     };
-    let place = Change::CursorPosition {
+    let position = Change::CursorPosition {
         x: Position::Absolute(1),
         y: Position::Relative(-2),
     };
     assert!(rt; is_copied(&rt, &text, &text_of(&rt, "ac")));
-    assert!(rt; is_copied(&rt, &scroll, &place));
-    assert!(rt; is_copied(&rt, &place, &scroll));
+    assert!(rt; is_copied(&rt, &scroll, &position));
+    assert!(rt; is_copied(&rt, &position, &scroll));
     assert!(rt; is_copied(&rt, &Change::ClearScreen(ColorAttribute::Default), &text));
 }
 

@@ -8,7 +8,7 @@ fn line_of<R: Abort + AllocGlobal>(rt: &R, text: &str) -> Line {
 }
 
 // The first column and the columns of the cell that a byte belongs to.
-fn place(cluster: &CellCluster, byte: usize) -> Option<(usize, u8)> {
+fn position(cluster: &CellCluster, byte: usize) -> Option<(usize, u8)> {
     if byte < cluster.text.len() {
         Some((
             cluster.byte_to_cell_idx(byte),
@@ -19,22 +19,22 @@ fn place(cluster: &CellCluster, byte: usize) -> Option<(usize, u8)> {
     }
 }
 
-// The cluster has that text, so many columns, that first column, and these places of its bytes.
+// The cluster has that text, `width` columns, that first column, and these positions of its bytes.
 fn assert_cluster<R: Abort>(
     rt: &R,
     cluster: &CellCluster,
     text: &str,
     width: usize,
     first_cell_idx: usize,
-    places: &[(usize, u8)],
+    positions: &[(usize, u8)],
 ) {
     assert_eq!(rt; cluster.text.as_str(), text);
     assert_eq!(rt; cluster.width, width);
     assert_eq!(rt; cluster.first_cell_idx, first_cell_idx);
-    for (byte, expected) in places.iter().enumerate() {
-        assert_eq!(rt; place(cluster, byte), Some(*expected));
+    for (byte, expected) in positions.iter().enumerate() {
+        assert_eq!(rt; position(cluster, byte), Some(*expected));
     }
-    assert_eq!(rt; place(cluster, places.len()), None);
+    assert_eq!(rt; position(cluster, positions.len()), None);
 }
 
 #[test]
@@ -48,7 +48,7 @@ fn clusters_of_part_of_a_line(rt: HostRuntime) {
 }
 
 #[test]
-fn clusters_of_cells_apart(rt: HostRuntime) {
+fn clusters_of_cells_independent(rt: HostRuntime) {
     let line = line_of(&rt, "abc");
     let ends = line.visible_cells().filter(|cell| cell.cell_index() != 1);
     let clusters = CellCluster::make_cluster(rt.alloc(), 0, ends).expect(&rt, "memory");

@@ -8,7 +8,7 @@ use terminal::{ProgramWidth, Terminal};
 /// A terminal of the program's widths.
 pub type Plain = Terminal<ProgramWidth>;
 
-/// A text so many times.
+/// A text `count` times.
 pub fn times<R: Abort + AllocGlobal>(rt: &R, text: &[u8], count: usize) -> Vec<u8> {
     let mut bytes = Vec::new(rt.alloc());
     for _ in 0..count {
@@ -17,7 +17,7 @@ pub fn times<R: Abort + AllocGlobal>(rt: &R, text: &[u8], count: usize) -> Vec<u
     bytes
 }
 
-/// A terminal that was fed bytes in one piece.
+/// A terminal that was fed bytes in one chunk.
 pub fn fed<R: Abort + AllocGlobal>(rt: &R, width: usize, height: usize, bytes: &[u8]) -> Plain
     requires width { (0 < width) × (width < 2 ^ 32) }
     requires height { (0 < height) × (height < 2 ^ 32) }
@@ -27,7 +27,7 @@ pub fn fed<R: Abort + AllocGlobal>(rt: &R, width: usize, height: usize, bytes: &
     terminal
 }
 
-// A terminal that was fed bytes in pieces of 4,096.
+// A terminal that was fed bytes in chunks of 4,096.
 fn fed_in_pieces<R: Abort + AllocGlobal>(rt: &R, width: usize, height: usize, bytes: &[u8]) -> Plain
     requires width { (0 < width) × (width < 2 ^ 32) }
     requires height { (0 < height) × (height < 2 ^ 32) }
@@ -39,12 +39,12 @@ fn fed_in_pieces<R: Abort + AllocGlobal>(rt: &R, width: usize, height: usize, by
     terminal
 }
 
-/// The terminal shows these rows, its cursor is in this position, and so many changes led there.
+/// The terminal shows these rows, its cursor is in this position, and `number` changes led there.
 pub fn assert_shows<R: Abort + AllocGlobal>(
     rt: &R,
     terminal: &Plain,
     rows: &str,
-    place: (usize, usize),
+    position: (usize, usize),
     number: usize,
 ) {
     let shown = terminal
@@ -52,7 +52,7 @@ pub fn assert_shows<R: Abort + AllocGlobal>(
         .screen_chars_to_string()
         .expect(rt, "memory");
     assert!(rt; shown.as_str() == rows);
-    assert_eq!(rt; terminal.surface().cursor_position(), place);
+    assert_eq!(rt; terminal.surface().cursor_position(), position);
     assert_eq!(rt; terminal.current_number(), number);
 }
 
@@ -86,7 +86,7 @@ fn update_of<R: Abort + AllocGlobal>(
     terminal.update(0).expect(rt, "memory").1
 }
 
-// A text of so many lines, each of three changes, scrolls to these rows in one piece and in several.
+// A text of `count` lines, each of three changes, scrolls to these rows in one chunk and in several.
 fn assert_scrolls<R: Abort + AllocGlobal>(rt: &R, line: &[u8], count: usize, rows: &str) {
     let bytes = times(rt, line, count);
     let number = count.saturating_mul(3);
@@ -107,7 +107,7 @@ pub fn long_line<R: Abort + AllocGlobal>(rt: &R) -> Vec<u8> {
     line
 }
 
-/// What follows such lines on 80 columns and 3 rows.
+/// The rows after long lines on 80 columns and 3 rows.
 pub fn rows_of_long_lines<R: Abort + AllocGlobal>(rt: &R) -> String {
     let full = times(rt, b"abcdefghij", 8);
     let last = times(

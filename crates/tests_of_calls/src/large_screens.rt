@@ -22,8 +22,8 @@ fn assert_same<R: Abort + AllocGlobal>(rt: &R, terminal: &Plain, viewer: &Plain)
         .screen_chars_to_string()
         .expect(rt, "memory");
     assert!(rt; rows.as_str() == remaining.as_str());
-    let place = terminal.surface().cursor_position();
-    assert_eq!(rt; viewer.surface().cursor_position(), place);
+    let position = terminal.surface().cursor_position();
+    assert_eq!(rt; viewer.surface().cursor_position(), position);
 }
 
 // A terminal of 300 columns and 100 rows full of letters, with the cursor at home.

@@ -27,7 +27,7 @@ fn texts_of_a_megabyte(rt: HostRuntime) {
     assert!(rt; bytes.as_slice() == text.as_slice());
 }
 
-// A string with a long body is read as so many actions, and written as it was.
+// A string with a long body is read as `count` actions, and written as it was.
 fn assert_read<R: Abort + AllocGlobal>(rt: &R, prefix: &[u8], count: usize) {
     let mut bytes = times(rt, prefix, 1);
     bytes
@@ -50,7 +50,7 @@ fn bodies_of_70_kilobytes(rt: HostRuntime) {
     assert_read(&rt, b"\x1bPq", 70_003);
 }
 
-// So many numbers, each with a semicolon after it.
+// `count` numbers, each with a semicolon after it.
 fn numbers<R: Abort + AllocGlobal>(rt: &R, count: usize) -> Vec<CsiParam> {
     let mut params = Vec::new(rt.alloc());
     for _ in 0..count {

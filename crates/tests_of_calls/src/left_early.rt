@@ -1,7 +1,7 @@
 //! Parsers of which pieces were dropped before their end.
 use escape_stream::{ParseError, Parser};
 
-// Takes one piece of a text and a sequence, and drops the others.
+// Takes one piece of a text and a sequence, and drops the rest.
 fn leaves_pieces(parser: &mut Parser) -> bool {
     parser.pieces(b"ab\x1b[1m").next().is_some()
 }

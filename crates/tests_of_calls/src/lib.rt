@@ -3,11 +3,15 @@
 #![tactic(auto)]
 
 #[cfg(test)]
+mod attribute_runs;
+#[cfg(test)]
 mod attributes;
 #[cfg(test)]
 mod by_value;
 #[cfg(test)]
 mod changes;
+#[cfg(test)]
+mod clustered_rows;
 #[cfg(test)]
 mod clusters;
 #[cfg(test)]
@@ -39,7 +43,7 @@ mod partial;
 #[cfg(test)]
 mod pieces;
 #[cfg(test)]
-mod places;
+mod positions;
 #[cfg(test)]
 mod recorded;
 #[cfg(test)]

@@ -86,7 +86,7 @@ fn linked<R: Abort + AllocGlobal>(rt: &R, uri: &str) -> CellAttributes {
 }
 
 // A line of which the cells of one text have other attributes.
-fn two_looks<R: Abort + AllocGlobal>(rt: &R, text: &str, at: usize, other: &str) -> Line {
+fn two_renditions<R: Abort + AllocGlobal>(rt: &R, text: &str, at: usize, other: &str) -> Line {
     let mut line = plain_line(rt, text);
     line.overlay_text_with_attribute(at, other, italic(), 5, &ProgramWidth)
         .expect(rt, "memory");
@@ -111,9 +111,16 @@ fn forms_of_a_line_are_equal(rt: HostRuntime) {
 }
 
 #[test]
-fn forms_of_a_line_of_two_looks_are_equal(rt: HostRuntime) {
-    let line = two_looks(&rt, "a\u{304b}b", 1, "\u{304b}");
-    assert!(rt; are_equal(&rt, &line, &two_looks(&rt, "a  b", 1, "\u{304b}"), true));
+fn forms_of_a_line_of_two_renditions_are_equal(rt: HostRuntime) {
+    let line = two_renditions(&rt, "a\u{304b}b", 1, "\u{304b}");
+    assert!(rt;
+        are_equal(
+            &rt,
+            &line,
+            &two_renditions(&rt, "a  b", 1, "\u{304b}"),
+            true
+        )
+    );
     let linked_line = line_of(&rt, "ab", &linked(&rt, "u"));
     assert!(rt;
         are_equal(
@@ -163,7 +170,7 @@ fn line_of_wide<R: Abort + AllocGlobal>(rt: &R) -> Line {
 #[test]
 fn lines_of_other_attributes_differ(rt: HostRuntime) {
     assert!(rt; differs(&rt, "abc", &line_of(&rt, "abc", &italic())));
-    assert!(rt; differs(&rt, "abc", &two_looks(&rt, "abc", 2, "c")));
+    assert!(rt; differs(&rt, "abc", &two_renditions(&rt, "abc", 2, "c")));
     assert!(rt; differs(&rt, "abc", &line_of(&rt, "abc", &linked(&rt, "u"))));
     let linked_line = line_of(&rt, "abc", &linked(&rt, "u"));
     assert!(rt;
@@ -216,7 +223,7 @@ fn is_clustered(line: &Line) -> bool {
     matches!(line.stored(), StoredLine::Clustered(_))
 }
 
-// Whether the columns in which two lines may differ are those from one on and before another.
+// Whether `unequal_columns` of two lines gives the columns from `start` to before `stop`.
 fn differ_in(line: &Line, other: &Line, start: usize, stop: usize) -> bool {
     let (first, after) = line.unequal_columns(other);
     first == start && after == stop
@@ -232,6 +239,10 @@ fn columns_of_copies_do_not_differ(rt: HostRuntime) {
     assert!(rt; differ_in(&clustered, &copy, 3, 3));
     assert!(rt; differ_in(&clustered, &line, 0, 3));
     assert!(rt; differ_in(&line, &line, 0, 3));
-    let other = in_form(&rt, &two_looks(&rt, "a\u{304b}", 0, "a"), Form::Clustered);
+    let other = in_form(
+        &rt,
+        &two_renditions(&rt, "a\u{304b}", 0, "a"),
+        Form::Clustered,
+    );
     assert!(rt; differ_in(&clustered, &other, 0, 3));
 }

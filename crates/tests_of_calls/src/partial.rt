@@ -16,7 +16,7 @@ impl Read for Pieces {
     fn read(&mut self, buf: &mut [u8]) -> io::Result<usize> {
         if self.reads_left == 0 || buf.len() > 4096 {
             self.reads_left = usize::MAX;
-            return Err(io::Error::from(ErrorKind::Other));
+            return Err(io::Error::from(ErrorKind::UnexpectedEof));
         }
         self.reads_left -= 1;
         let wanted = buf.len().min(self.most);
@@ -37,7 +37,7 @@ impl Write for Sink {
     fn write(&mut self, buf: &[u8]) -> io::Result<usize> {
         if self.writes_left == 0 {
             self.writes_left = usize::MAX;
-            return Err(io::Error::from(ErrorKind::Other));
+            return Err(io::Error::from(ErrorKind::BrokenPipe));
         }
         self.writes_left -= 1;
         let count = buf.len().min(self.most);
@@ -48,14 +48,14 @@ impl Write for Sink {
     fn flush(&mut self) -> io::Result<()> {
         if self.flushes_left == 0 {
             self.flushes_left = usize::MAX;
-            return Err(io::Error::from(ErrorKind::Other));
+            return Err(io::Error::from(ErrorKind::TimedOut));
         }
         self.flushes_left -= 1;
         Ok(())
     }
 }
 
-/// A writer of so many bytes at a time that fails after so many writes, or after so many flushes.
+/// A writer of `most` bytes at a time that fails after `writes_left` writes, or after `flushes_left` flushes.
 pub fn sink_of(alloc: Global, most: usize, writes_left: usize, flushes_left: usize) -> Sink {
     Sink {
         text: Vec::new(alloc),

@@ -13,7 +13,7 @@ fn gives_nothing(parser: &mut Parser, bytes: &[u8]) -> bool {
     parser.pieces(bytes).next().is_none()
 }
 
-// Takes one piece, and drops the others.
+// Takes one piece, and drops the rest.
 fn takes_one(parser: &mut Parser, bytes: &[u8]) -> bool {
     parser.pieces(bytes).next().is_some()
 }

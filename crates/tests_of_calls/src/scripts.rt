@@ -5,7 +5,7 @@ use std::alloc::Global;
 const WIDTH: usize = 5;
 
 const HEIGHT: usize = 3;
-// A character of two columns, and what stands in the second one.
+// A character of two columns, and the mark of its second column.
 const WIDE: char = '\u{304b}';
 
 const HALF: char = '\u{0}';
@@ -23,11 +23,11 @@ struct Drawing {
 fn column_from(from: usize, position: Position) -> usize {
     match position {
         Position::Absolute(WIDTH) => WIDTH,
-        _ => place_from(WIDTH, from, position),
+        _ => position_from(WIDTH, from, position),
     }
 }
 
-fn place_from(size: usize, from: usize, position: Position) -> usize {
+fn position_from(size: usize, from: usize, position: Position) -> usize {
     let last = size.saturating_sub(1);
     match position {
         Position::Absolute(at) => at.min(last),
@@ -37,27 +37,30 @@ fn place_from(size: usize, from: usize, position: Position) -> usize {
     }
 }
 
-fn place(row: usize, column: usize) -> usize {
+fn position(row: usize, column: usize) -> usize {
     row.saturating_mul(WIDTH).saturating_add(column)
 }
 
 impl Drawing {
     fn at(&self, row: usize, column: usize) -> char {
         if column < WIDTH {
-            self.columns.get(place(row, column)).copied().unwrap_or(' ')
+            self.columns
+                .get(position(row, column))
+                .copied()
+                .unwrap_or(' ')
         } else {
             ' '
         }
     }
 
     fn set(&mut self, column: usize, character: char) {
-        let place = place(self.row, column);
-        if column < WIDTH && place < self.columns.len() {
-            self.columns[place] = character;
+        let position = position(self.row, column);
+        if column < WIDTH && position < self.columns.len() {
+            self.columns[position] = character;
         }
     }
 
-    // Where a wide character stands on both sides of the column's left edge, it becomes two blanks.
+    // Where the column's left edge splits a wide character, that character becomes two blanks.
     fn cut(&mut self, column: usize) {
         if self.at(self.row, column) == HALF {
             self.set(column.saturating_sub(1), ' ');
@@ -147,7 +150,7 @@ impl Drawing {
             Change::ClearToEndOfScreen(_) => self.clear_below(),
             Change::CursorPosition { x, y } => {
                 self.column = column_from(self.column, *x);
-                self.row = place_from(HEIGHT, self.row, *y);
+                self.row = position_from(HEIGHT, self.row, *y);
             }
             Change::ScrollRegionUp {
                 first_row,
@@ -281,8 +284,8 @@ fn are_alike(alloc: Global, seed: u64, count: u32) -> Option<bool> {
         drawing.draw(&change)?;
         surface.add_change(change).ok()?;
         let rows = surface.screen_chars_to_string().ok()?;
-        let place = (drawing.column, drawing.row);
-        if rows.as_str() != drawing.shown()?.as_str() || surface.cursor_position() != place {
+        let position = (drawing.column, drawing.row);
+        if rows.as_str() != drawing.shown()?.as_str() || surface.cursor_position() != position {
             return Some(false);
         }
     }

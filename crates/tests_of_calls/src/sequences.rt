@@ -16,7 +16,7 @@ fn nothing_comes_after_the_last_action(rt: HostRuntime) {
 }
 
 #[test]
-fn places_from_0_and_from_1(rt: HostRuntime) {
+fn positions_from_0_and_from_1(rt: HostRuntime) {
     let third = OneBased::from_zero_based(2);
     assert_eq!(rt; third.as_zero_based(), 2);
     assert_eq!(rt; third, OneBased::new(3));

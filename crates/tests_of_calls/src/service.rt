@@ -1,7 +1,8 @@
 //! `show` on readers and writers that give and take a few bytes at a time, and fail.
 use crate::partial::{Pieces, Sink, sink_of};
 use std::alloc::Global;
-use std::io::{Read, Write};
+use std::io;
+use std::io::{ErrorKind, Read, Write};
 use terminal::{ProgramWidth, RunError, Watched, show};
 
 const INPUT: &[u8] = b"w00tfoobaarbaz";
@@ -89,4 +90,22 @@ fn watched_counts_flushes_and_calls_after_a_fault(rt: HostRuntime) {
     assert!(rt; writer.flush().is_err() && !writer.is_flushed() && !writer.has_gone_on());
     assert!(rt; writer.write(b"b").is_ok() && writer.has_gone_on());
     assert_eq!(rt; writer.flushes(), 2);
+}
+
+// The kind of the error, if there is one.
+fn kind_of<T: Drop>(answer: io::Result<T>) -> Option<ErrorKind> {
+    match answer {
+        Ok(_) => None,
+        Err(error) => Some(error.kind()),
+    }
+}
+
+#[test]
+fn watched_returns_the_errors_of_reader_and_writer(rt: HostRuntime) {
+    let mut reader = Watched::new(input_in(5, 0));
+    let mut buffer = [0u8; 8];
+    assert!(rt; kind_of(reader.read(&mut buffer)) == Some(ErrorKind::UnexpectedEof));
+    let mut writer = Watched::new(sink_of(rt.alloc(), 1, 0, 0));
+    assert!(rt; kind_of(writer.write(b"a")) == Some(ErrorKind::BrokenPipe));
+    assert!(rt; kind_of(writer.flush()) == Some(ErrorKind::TimedOut));
 }

@@ -1,4 +1,4 @@
-//! Surfaces and sequences of changes: what is asked of them, copies, and lists that are added.
+//! Surfaces and sequences of changes: queries of them, copies, and lists that are added.
 use cell_surface::{
     Change, ChangeSequence, ColorAttribute, CursorShape, LineAttribute, Position, ProgramWidth,
     Surface,

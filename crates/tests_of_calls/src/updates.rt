@@ -44,12 +44,12 @@ fn writes_the_updates_whatever_the_pieces(rt: HostRuntime) {
     }
 }
 
-/// Whether a text is so many bytes, the first ones of the updates.
+/// Whether a text is the first `count` bytes of the updates.
 fn is_part(text: &[u8], count: usize) -> bool {
     text.len() == count && UPDATES.starts_with(text)
 }
 
-/// Where a read fails after so many, the updates of what was read are written, the last one not.
+/// Where a read fails, the first `count` bytes of the updates are written: those of what was read, except the last.
 fn assert_unread<R: Abort + AllocGlobal>(rt: &R, pieces: Pieces, count: usize) {
     let (result, text) = ran(rt.alloc(), pieces, sink_of(rt.alloc(), 100, 100, 2));
     assert_eq!(rt; result, Err(RunError::Read));
@@ -70,7 +70,7 @@ fn run_ends_at_a_read_that_fails(rt: HostRuntime) {
     }
 }
 
-/// A write or a flush fails after so many bytes.
+/// A write or a flush fails after the first `count` bytes of the updates.
 fn assert_unwritten<R: Abort + AllocGlobal>(rt: &R, sink: Sink, count: usize) {
     let (result, text) = ran(rt.alloc(), input_in(100, 100), sink);
     assert_eq!(rt; result, Err(RunError::Write));

@@ -85,7 +85,7 @@ fn assert_viewed<R: Abort + AllocGlobal, W: Widths + Drop + Copy>(rt: &R, widths
     assert_eq!(rt; viewer.surface().cursor_position().0, column);
 }
 
-// A viewer of the same widths that reads the patch from what it shows then shows the same row, and has printed so many
+// A viewer of the same widths that reads the patch from what it shows then shows the same row; the patch has `count`
 // bytes.
 fn assert_patched<R: Abort + AllocGlobal, W: Widths + Drop + Copy>(
     rt: &R,

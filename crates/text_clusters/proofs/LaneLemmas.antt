@@ -26,7 +26,7 @@ itself [] = refl
 itself (x ∷ xs) = ap (λ r. x ∷ r) (itself xs)
 
 run_is : (p : ℕ → Bool) (v : List ℕ) (n : ℕ) → length v ≡ n → n ≤ 64 → first_set (mask_l (map p v)) n ≡ prefix_len (λ x. not (p x)) v
-run_is p v n long few =
+run_is p v n long short =
     elim (cases_eq (mask_l (map p v)) 0) [
       | inl none ↦ cond-true _ _ _ (eq-eqb _ _ none) ∙ sym (leading_from_mask_l p v none ∙ long)
       | inr some ↦ cond-false _ _ _ (ne_eqb _ _ some) ∙ trailing_mask_l p 64 v (omega arith) (omega arith)
@@ -41,7 +41,7 @@ same_len p q (x ∷ v) fits all = by_test (q x) refl (agree_below_at p q 256 x a
     by_test true e h k = rw (h ∙ e, e) (ap (λ n. 1 + n) k)
     by_test false e h k = rw (h ∙ e, e) refl
 
-module _ (q : ℕ → Bool) (v z : List ℕ) (n r : ℕ) (long : length v ≡ n) (few : n ≤ 64) (fits : (k : ℕ) → Fits w8 (get_or v k 0))
+module _ (q : ℕ → Bool) (v z : List ℕ) (n r : ℕ) (long : length v ≡ n) (short : n ≤ 64) (fits : (k : ℕ) → Fits w8 (get_or v k 0))
     (found : r ≡ first_set (mask_l (map (top 7) z) % 2 ^ 64) n) (f : ℕ → ℕ) (lanes : z ≡ map f v) where
   abbrev stops : ℕ → Bool
   stops x = top 7 (f x)
@@ -49,7 +49,7 @@ module _ (q : ℕ → Bool) (v z : List ℕ) (n r : ℕ) (long : length v ≡ n)
   counted : r ≡ prefix_len (λ x. not (stops x)) v
   counted =
       let mask = ap (λ l. mask_l l % 2 ^ 64) (ap (map (top 7)) lanes ∙ map-map (top 7) f v) ∙ mask_l-mod (map stops v) 64 (omega (arith, length-map v stops, long)) in
-      found ∙ ap (λ m. first_set m n) mask ∙ run_is stops v n long few
+      found ∙ ap (λ m. first_set m n) mask ∙ run_is stops v n long short
 
   pub run_len : agree_below (λ x. not (stops x)) q 256 ≡ true → r ≡ prefix_len q v
   run_len all = counted ∙ same_len (λ x. not (stops x)) q v fits all
@@ -119,10 +119,10 @@ passed p q h (x ∷ xs) = by_test (p x) refl (passed p q h xs)
         omega (arith, a, c)
 
 -- what is known to pass may be left out
-pub front_passes : (p : ℕ → Bool) (n : ℕ) (xs : List ℕ) → n ≤ prefix_len p xs → prefix_len p xs ≡ n + prefix_len p (drop n xs)
-front_passes p zero xs h = omega arith
-front_passes p (suc n) [] h = absurd (omega arith)
-front_passes p (suc n) (x ∷ xs) h = by_test (p x) refl h (λ k. front_passes p n xs k)
+pub prefix_passes : (p : ℕ → Bool) (n : ℕ) (xs : List ℕ) → n ≤ prefix_len p xs → prefix_len p xs ≡ n + prefix_len p (drop n xs)
+prefix_passes p zero xs h = omega arith
+prefix_passes p (suc n) [] h = absurd (omega arith)
+prefix_passes p (suc n) (x ∷ xs) h = by_test (p x) refl h (λ k. prefix_passes p n xs k)
   where
     by_test : (t : Bool) → p x ≡ t → suc n ≤ prefix_len p (x ∷ xs) → (n ≤ prefix_len p xs → prefix_len p xs ≡ n + prefix_len p (drop n xs)) → prefix_len p (x ∷ xs) ≡ suc n + prefix_len p (drop (suc n) (x ∷ xs))
     by_test true e h k =
@@ -136,7 +136,7 @@ pub last_block : (p : ℕ → Bool) (n last : ℕ) (xs block : List ℕ) → n �
     → prefix_len p xs ≡ last + prefix_len p (take n block)
 last_block p n last xs block h l b k =
     let long : length block ≡ n = ap length b ∙ length-drop last xs ∙ omega (arith, h, l) in
-    front_passes p last xs k ∙ ap (λ ys. last + prefix_len p ys) (sym b ∙ sym (take_all n block (omega (arith, long))))
+    prefix_passes p last xs k ∙ ap (λ ys. last + prefix_len p ys) (sym b ∙ sym (take_all n block (omega (arith, long))))
 
 -- numbers are equal where those before them are
 equal_before : (n m : ℕ) → (1 + n == suc m) ≡ (n == m)
@@ -165,8 +165,8 @@ both_blocks p n xs block h l b =
           let whole = last_block p n (length xs - n) xs block h refl b (omega (arith, first, l)) in
           rw (eq-eqb _ _ same) (moved (prefix_len p (take n block)) n (prefix_len p xs) (length xs) (length xs - n) (omega (arith, h)) whole ∙ all_by_len p xs)
       | inr other ↦
-          let few = prefix_few p n xs in
-          let less : prefix_len p (take n xs) < n = omega (arith, few, other) in
+          let short = prefix_short p n xs in
+          let less : prefix_len p (take n xs) < n = omega (arith, short, other) in
           let stops = block_stops p n xs less h in
           rw (ne_eqb _ _ other) (sym (ne_eqb _ _ (λ same. omega (arith, same, stops, less, h))) ∙ all_by_len p xs)
     ]
@@ -179,10 +179,10 @@ both_blocks p n xs block h l b =
           | inr other ↦ ne_eqb _ _ other ∙ sym (ne_eqb _ _ (λ same. other (omega (arith, e, f, same))))
         ]
 
-    prefix_few : (p : ℕ → Bool) (n : ℕ) (xs : List ℕ) → prefix_len p (take n xs) ≤ n
-    prefix_few p zero xs = omega arith
-    prefix_few p (suc n) [] = omega arith
-    prefix_few p (suc n) (x ∷ xs) = by_test (p x) refl (prefix_few p n xs)
+    prefix_short : (p : ℕ → Bool) (n : ℕ) (xs : List ℕ) → prefix_len p (take n xs) ≤ n
+    prefix_short p zero xs = omega arith
+    prefix_short p (suc n) [] = omega arith
+    prefix_short p (suc n) (x ∷ xs) = by_test (p x) refl (prefix_short p n xs)
       where
         by_test : (t : Bool) → p x ≡ t → prefix_len p (take n xs) ≤ n → prefix_len p (take (suc n) (x ∷ xs)) ≤ suc n
         by_test true e h = let b = prefix_cons p x (take n xs) e in omega arith

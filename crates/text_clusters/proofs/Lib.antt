@@ -1,4 +1,4 @@
-pub mod ApartLemmas
+pub mod IndependentLemmas
 pub mod CharacterFacts
 pub mod ControlLemmas
 pub mod CutLemmas

@@ -26,9 +26,9 @@ chars-ascii c (d ∷ s) h = let e = lt-ltb c 128 h in λ i. chars_after (cond (e
 encode_one : (c : ℕ) → c < 128 → encode_utf8_all (c ∷ []) ≡ c ∷ []
 encode_one c h = ap (λ (b : List ℕ). b ++ []) (encode_ascii c h)
 
-pub apart : (c d : ℕ) (rest : List ℕ) → is_printable c ≡ true → is_printable d ≡ true → graphemes true (c ∷ d ∷ rest) ≡ (c ∷ []) ∷ graphemes true (d ∷ rest)
+pub independent : (c d : ℕ) (rest : List ℕ) → is_printable c ≡ true → is_printable d ≡ true → graphemes true (c ∷ d ∷ rest) ≡ (c ∷ []) ∷ graphemes true (d ∷ rest)
 unfolding segments
-apart c d rest p q =
+independent c d rest p q =
     let below = printable_below c p in
     let below_next = printable_below d q in
     let boundary : breaks (c ∷ []) (d ∷ chars rest) ≡ true = sym (is_grapheme_break-others true (c ∷ []) d (chars rest) (omega arith) (omega arith) (printable_is_other c below p) (printable_is_other d below_next q)) in
@@ -47,47 +47,47 @@ pub graphemes-nil : graphemes true [] ≡ []
 unfolding segments chars cut
 graphemes-nil = refl
 
-pub front_printable : (c : ℕ) (rest : List ℕ) → 0 < prefix_len is_printable (c ∷ rest) → is_printable c ≡ true
-front_printable c rest h = by_test (is_printable c) (λ e. e) (λ e. absurd (let none : prefix_len is_printable (c ∷ rest) ≡ 0 = ap (λ t. cond t (1 + prefix_len is_printable rest) 0) e in omega arith))
+pub prefix_printable : (c : ℕ) (rest : List ℕ) → 0 < prefix_len is_printable (c ∷ rest) → is_printable c ≡ true
+prefix_printable c rest h = by_test (is_printable c) (λ e. e) (λ e. absurd (let none : prefix_len is_printable (c ∷ rest) ≡ 0 = ap (λ t. cond t (1 + prefix_len is_printable rest) 0) e in omega arith))
 
-pub front_len : (c : ℕ) (rest : List ℕ) → is_printable c ≡ true → prefix_len is_printable (c ∷ rest) ≡ 1 + prefix_len is_printable rest
-front_len c rest e = ap (λ t. cond t (1 + prefix_len is_printable rest) 0) e
+pub prefix_len_more : (c : ℕ) (rest : List ℕ) → is_printable c ≡ true → prefix_len is_printable (c ∷ rest) ≡ 1 + prefix_len is_printable rest
+prefix_len_more c rest e = ap (λ t. cond t (1 + prefix_len is_printable rest) 0) e
 
 -- before the last printable character each is a cluster
 pub run : (n : ℕ) (text : List ℕ) → n < prefix_len is_printable text → graphemes true text ≡ each (take n text) ++ graphemes true (drop n text)
 run zero text h = refl
 run (suc n) [] h = absurd (omega arith)
-run (suc n) (c ∷ []) h = absurd (let l = front_len c [] (front_printable c [] (omega arith)) in omega arith)
+run (suc n) (c ∷ []) h = absurd (let l = prefix_len_more c [] (prefix_printable c [] (omega arith)) in omega arith)
 run (suc n) (c ∷ d ∷ rest) h =
-    let p = front_printable c (d ∷ rest) (omega arith) in
-    let l = front_len c (d ∷ rest) p in
-    let q = front_printable d rest (omega arith) in
-    apart c d rest p q ∙ ap (λ (gs : List (List ℕ)). (c ∷ []) ∷ gs) (run n (d ∷ rest) (omega arith))
+    let p = prefix_printable c (d ∷ rest) (omega arith) in
+    let l = prefix_len_more c (d ∷ rest) p in
+    let q = prefix_printable d rest (omega arith) in
+    independent c d rest p q ∙ ap (λ (gs : List (List ℕ)). (c ∷ []) ∷ gs) (run n (d ∷ rest) (omega arith))
 
 pub whole_run : (text : List ℕ) → prefix_len is_printable text ≡ length text → graphemes true text ≡ each text
 whole_run [] h = graphemes-nil
-whole_run (c ∷ []) h = one_alone c (front_printable c [] (omega arith))
+whole_run (c ∷ []) h = one_alone c (prefix_printable c [] (omega arith))
 whole_run (c ∷ d ∷ rest) h =
-    let p = front_printable c (d ∷ rest) (omega arith) in
-    let l = front_len c (d ∷ rest) p in
-    let q = front_printable d rest (omega arith) in
-    apart c d rest p q ∙ ap (λ (gs : List (List ℕ)). (c ∷ []) ∷ gs) (whole_run (d ∷ rest) (omega arith))
+    let p = prefix_printable c (d ∷ rest) (omega arith) in
+    let l = prefix_len_more c (d ∷ rest) p in
+    let q = prefix_printable d rest (omega arith) in
+    independent c d rest p q ∙ ap (λ (gs : List (List ℕ)). (c ∷ []) ∷ gs) (whole_run (d ∷ rest) (omega arith))
 
 -- ---- the plain prefix of a text
 
-pub printable_front : (n : ℕ) (text : List ℕ) → n ≤ prefix_len is_printable text → list_all is_printable (take n text) ≡ true
-printable_front zero text h = refl
-printable_front (suc n) [] h = refl
-printable_front (suc n) (c ∷ text) h =
-    let p = front_printable c text (omega arith) in
-    let l = front_len c text p in
-    ap₂ ◌&&◌ p (printable_front n text (omega arith))
+pub printable_prefix : (n : ℕ) (text : List ℕ) → n ≤ prefix_len is_printable text → list_all is_printable (take n text) ≡ true
+printable_prefix zero text h = refl
+printable_prefix (suc n) [] h = refl
+printable_prefix (suc n) (c ∷ text) h =
+    let p = prefix_printable c text (omega arith) in
+    let l = prefix_len_more c text p in
+    ap₂ ◌&&◌ p (printable_prefix n text (omega arith))
 
 pub prefix_taken : (most : ℕ) (text : List ℕ) → prefix_len is_printable (take most text) ≡ min most (prefix_len is_printable text)
 prefix_taken zero text = omega arith
 prefix_taken (suc most) [] = omega arith
 prefix_taken (suc most) (c ∷ text) = by_test (is_printable c)
-    (λ e. let l = front_len c text e in let m = front_len c (take most text) e in let n = prefix_taken most text in omega arith)
+    (λ e. let l = prefix_len_more c text e in let m = prefix_len_more c (take most text) e in let n = prefix_taken most text in omega arith)
     (λ e.
     let taken : prefix_len is_printable (c ∷ take most text) ≡ 0 = ap (λ t. cond t (1 + prefix_len is_printable (take most text)) 0) e in
     let all : prefix_len is_printable (c ∷ text) ≡ 0 = ap (λ t. cond t (1 + prefix_len is_printable text) 0) e in
@@ -135,14 +135,14 @@ module _ (text : List ℕ) where
     abbrev prefix : ℕ
     prefix = min most (plain_len text)
 
-    front_le : prefix ≤ here
-    front_le = let l = plain_le in omega arith
+    prefix_le : prefix ≤ here
+    prefix_le = let l = plain_le in omega arith
 
-    pub front_printable_all : list_all is_printable (take prefix text) ≡ true
-    front_printable_all = printable_front prefix text front_le
+    pub prefix_printable_all : list_all is_printable (take prefix text) ≡ true
+    prefix_printable_all = printable_prefix prefix text prefix_le
 
-    pub front_cut : graphemes true text ≡ each (take prefix text) ++ graphemes true (drop prefix text)
-    front_cut = by_test (nat_lt most (plain_len text))
+    pub prefix_cut : graphemes true text ≡ each (take prefix text) ++ graphemes true (drop prefix text)
+    prefix_cut = by_test (nat_lt most (plain_len text))
         (λ t.
         let less : most < plain_len text = ltb-true most (plain_len text) t in
         let le = plain_le in
@@ -152,8 +152,8 @@ module _ (text : List ℕ) where
         let is : plain_len text ≡ prefix = omega arith in
         plain_cut ∙ ap (λ n. each (take n text) ++ graphemes true (drop n text)) is)
 
-    pub front_boundary : IsUtf8 text → IsCharBoundary text prefix
-    front_boundary u = by_test (nat_lt prefix here)
+    pub prefix_boundary : IsUtf8 text → IsCharBoundary text prefix
+    prefix_boundary u = by_test (nat_lt prefix here)
         (λ t.
         let less : prefix < here = ltb-true prefix here t in
         let bound = within in
@@ -164,7 +164,7 @@ module _ (text : List ℕ) where
         by_test (here == length text)
         (λ e.
         let all : here ≡ length text = eqb-true here (length text) e in
-        let le = front_le in
+        let le = prefix_le in
         let is : length text ≡ prefix = omega arith in
         subst (IsCharBoundary text) is (IsCharBoundary-end text))
         (λ e.
@@ -177,8 +177,8 @@ module _ (text : List ℕ) where
     run_len : prefix_len is_printable (take most text) ≡ min most here
     run_len = prefix_taken most text
 
-    pub front_less : (run : ℕ) → run ≡ prefix_len is_printable (take most text) → (nat_lt run (length text) && not (is_printable (slice_index text run))) ≡ true → run - 1 ≡ prefix
-    front_less run e o =
+    pub prefix_less : (run : ℕ) → run ≡ prefix_len is_printable (take most text) → (nat_lt run (length text) && not (is_printable (slice_index text run))) ≡ true → run - 1 ≡ prefix
+    prefix_less run e o =
         let l = run_len in
         let inside : run < length text = ltb-true run (length text) (and_parts (nat_lt run (length text)) _ o).0 in
         let stops : run ≡ here = by_test (nat_lt run here)
@@ -187,8 +187,8 @@ module _ (text : List ℕ) where
         let less = plain_less (not_all (here == length text) (λ e. absurd (let is = eqb-true here (length text) e in omega arith))) in
         omega arith
 
-    pub front_all : (run : ℕ) → run ≡ prefix_len is_printable (take most text) → (nat_lt run (length text) && not (is_printable (slice_index text run))) ≡ false → run ≡ prefix
-    front_all run e o =
+    pub prefix_all : (run : ℕ) → run ≡ prefix_len is_printable (take most text) → (nat_lt run (length text) && not (is_printable (slice_index text run))) ≡ false → run ≡ prefix
+    prefix_all run e o =
         let l = run_len in
         let bound = within in
         by_test (nat_lt run (length text))

@@ -26,11 +26,11 @@ is_eastern c = is_in_range 0x2E00 0x3029 c || is_in_range 0x3030 0x3098 c || is_
 abbrev pub is_later : ℕ → Bool
 is_later c = is_in_range 0xAC00 0xD7A3 c || is_in_range 0xE000 0xFB1D c || is_in_range 0xFF00 0xFF9D c
 
--- pictographs but for the modifiers of their skin, ideographs
+-- pictographs except skin tone modifiers, ideographs
 abbrev pub is_late : ℕ → Bool
 is_late c = is_in_range 0x1F000 0x1F1E5 c || is_in_range 0x1F200 0x1F3FA c || is_in_range 0x1F400 0x3FFFF c
 
--- Between two of these characters no rule but GB999 of UAX 29 applies, so there is a boundary.
+-- Between two of these characters, of the rules of UAX 29 only GB999 applies, so there is a boundary.
 unfoldable pub is_independent : ℕ → Bool
 is_independent c =
     if nat_lt c 0x800 then is_early c
@@ -43,22 +43,22 @@ is_independent c =
 abbrev pub is_flag_half : ℕ → Bool
 is_flag_half c = is_in_range 0x1F1E6 0x1F1FF c
 
--- the characters are none, or begin with one that joins none before it that is independent
+-- the characters are none, or begin with one that joins no independent character before it
 abbrev pub is_independent_first : List ℕ → Bool
 is_independent_first [] = true
 is_independent_first (c ∷ cs) = is_independent c || is_flag_half c
 
--- nothing at the start of the text joins a character before it that is independent
+-- nothing at the start of the text joins an independent character before it
 unfoldable pub begins_independent : List ℕ → Bool
 begins_independent text = is_independent_first (chars text)
 
--- the text begins with this character, which has so many bytes
+-- the text begins with this character, which has `len` bytes
 pub record IsFirst (text : List ℕ) (character len : ℕ) : Type 0 where
   pub bytes : len ≡ length (encode_utf8 character)
   pub rest : List ℕ
   pub whole : text ≡ encode_utf8 character ++ rest
 
--- the text begins with this character, which is independent and has so many bytes
+-- the text begins with this character, which is independent and has `len` bytes
 pub record BeginsWith (text : List ℕ) (character len : ℕ) : Type 0 where
   pub stands : is_independent character ≡ true
   pub bytes : len ≡ length (encode_utf8 character)
@@ -72,7 +72,7 @@ pub record BeginsPrintable (text : List ℕ) : Type 0 where
   pub alone : encode_utf8 character ≡ character ∷ []
   pub begins : BeginsWith text character 1
 
--- how many printable characters stand at the start, less the last one where what follows it may join it
+-- the length of the printable prefix, less the last character where the rest may join it
 abbrev pub independent_len : List ℕ → ℕ
 independent_len text =
     let run = prefix_len is_printable text in if begins_independent (drop run text) then run else run - 1

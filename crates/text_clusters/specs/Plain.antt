@@ -10,7 +10,6 @@ is_printable byte = nat_le 32 byte && nat_lt byte 127
 abbrev pub each : List ℕ → List (List ℕ)
 each bytes = map (λ byte. byte ∷ []) bytes
 
--- how many printable characters stand at the start, less the last one where another character is after it, which may
--- join it
+-- the length of the printable prefix, less the last character where another one follows, which may join it
 abbrev pub plain_len : List ℕ → ℕ
 plain_len text = let run = prefix_len is_printable text in if run == length text then run else run - 1

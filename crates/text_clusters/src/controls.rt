@@ -5,7 +5,7 @@ ghost use Rattle.text_clusters.specs.Controls.{is_c1, holds_c1, len_before_ascii
 use crate::lanes::{LANES, after, first_set};
 use std::simd::prelude::*;
 
-// How many of the first sixteen bytes are no controls, up to one that is.
+// The number of bytes before the first control among the first sixteen bytes.
 #[inline(always)]
 fn block_len(bytes: &[u8]) -> usize
     requires { LANES ≤ length bytes.now }
@@ -17,8 +17,8 @@ fn block_len(bytes: &[u8]) -> usize
     first_set((below | delete).to_bitmask(), LANES)
 }
 
-// How many bytes stand before the first control, one looked at after another.
-fn few_len(bytes: &[u8]) -> usize
+// The number of bytes before the first control; it tests one byte at a time.
+fn partial_block_len(bytes: &[u8]) -> usize
     ensures { result ≡ len_before_ascii_control bytes.now }
 {
     bytes
@@ -27,7 +27,7 @@ fn few_len(bytes: &[u8]) -> usize
         .count()
 }
 
-/// How many bytes stand before the first C0 control or DEL.
+/// The number of bytes before the first C0 control or DEL.
 pub fn len_before_ascii_control(bytes: &[u8]) -> usize
     ensures { result ≡ len_before_ascii_control bytes.now }
 {
@@ -39,8 +39,8 @@ pub fn len_before_ascii_control(bytes: &[u8]) -> usize
         }
         rest = after(rest, LANES);
     }
-    let few = few_len(rest);
-    bytes.len() - (rest.len() - few)
+    let short = partial_block_len(rest);
+    bytes.len() - (rest.len() - short)
 }
 
 /// Whether two bytes are a control of C1 (ECMA-48, 5.3) in UTF-8, U+0080 to U+009F: C2 and then 80 to 9F.
@@ -51,7 +51,7 @@ pub fn is_c1(lead: u8, next: u8) -> bool
     lead == 0xc2 && matches!(next, 0x80..=0x9f)
 }
 
-/// Whether such a control stands among some bytes, which needn't be UTF-8 as a whole.
+/// Whether the bytes contain a C1 control in UTF-8; they needn't be UTF-8 as a whole.
 #[tactic(auto, using(crate::proofs::ControlLemmas::c1_next, crate::proofs::ControlLemmas::c1_found, crate::proofs::ControlLemmas::c1_end))]
 pub fn holds_c1(bytes: &[u8]) -> bool
     ensures { result ≡ holds_c1 bytes.now }

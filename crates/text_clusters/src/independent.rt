@@ -5,7 +5,7 @@ ghost use Rattle.unicode_segmentation.specs.Grapheme.{graphemes};
 ghost use Rattle.text_clusters.specs.Independent.{is_early, is_sign, is_eastern, is_later, is_late, is_independent};
 ghost use Rattle.text_clusters.specs.Independent.{is_flag_half, begins_independent, IsFirst};
 
-// Whether a number lies between two others, or is one of them.
+// Whether `code` lies in `first..=last`.
 #[inline(always)]
 fn is_in(code: u32, first: u32, last: u32) -> bool
     ensures { result ≡ is_in_range first last code }
@@ -89,7 +89,7 @@ fn is_flag_half(code: u32) -> bool
     is_in(code, 0x1f1e6, 0x1f1ff)
 }
 
-// Whether a character joins none before it that is independent.
+// Whether a character joins no independent character before it.
 #[inline(always)]
 fn joins_none(character: char) -> bool
     ensures { result ≡ (is_independent character || is_flag_half character) }
@@ -97,8 +97,8 @@ fn joins_none(character: char) -> bool
     is_independent(character) || is_flag_half(character as u32)
 }
 
-/// Whether the text is empty or begins with a character that joins none before it that is independent: another such
-/// one, or half of a flag.
+/// Whether the text is empty or begins with a character that doesn't join an independent character before it: one that
+/// is itself independent, or half of a flag.
 #[inline(always)]
 pub fn begins_independent(text: &str) -> bool
     ensures { result ≡ begins_independent text.now }
@@ -109,7 +109,7 @@ pub fn begins_independent(text: &str) -> bool
     }
 }
 
-/// The first character of a text, and of how many bytes it is.
+/// The first character of a text, and its length in bytes.
 #[inline(always)]
 pub fn first_character(text: &str) -> Option<(char, usize)>
     ensures none { IsNone result ↔ (text.now ≡ []) }
@@ -120,7 +120,7 @@ pub fn first_character(text: &str) -> Option<(char, usize)>
     Some((first, text.len() - characters.as_str().len()))
 }
 
-// Cuts off a first character that is independent, where what follows it begins so too.
+// Cuts off an independent first character where the rest meets `begins_independent`.
 #[inline(always)]
 pub(crate) fn split_independent(text: &str) -> Option<(&str, &str)>
     ensures whole { IfSome result (λ parts. text.now ≡ parts.0.now ++ parts.1.now) }

@@ -1,11 +1,11 @@
-//! Blocks of bytes that are looked at at once.
+//! Blocks of bytes that one comparison tests.
 ghost use Rattle.std.specs.Prelude.{◌≡◌, ◌≤◌, length, drop};
 ghost use Rattle.text_clusters.specs.Lanes.{first_set};
 
 /// How many bytes the largest block has.
 pub(crate) const LANES: usize = 16;
 
-/// The place of the lowest bit that is set, or `lanes` where none is.
+/// The position of the lowest set bit of `mask`, or `lanes` where `mask` is 0.
 #[inline(always)]
 pub(crate) fn first_set(mask: u64, lanes: usize) -> usize
     ensures { result ≡ first_set mask lanes }
@@ -17,7 +17,7 @@ pub(crate) fn first_set(mask: u64, lanes: usize) -> usize
     }
 }
 
-/// What follows so many bytes.
+/// The rest after `count` bytes.
 #[inline(always)]
 pub(crate) fn after(bytes: &[u8], count: usize) -> &[u8]
     requires { count ≤ length bytes.now }

@@ -12,8 +12,8 @@ pub fn clusters_stand_alone(text: &str)
     let _text = text;
 }
 
-/// The clusters of a text, joined, are the text; and what follows some of them has the others
-/// as its clusters.
+/// The clusters of a text, joined, are the text; and the text after the first `count` clusters has
+/// the remaining clusters as its own.
 pub fn clusters_after_clusters(text: &str)
     ensures joined { concat (graphemes true text.now) ≡ text.now }
     ensures after { (count : ℕ)
@@ -30,9 +30,10 @@ pub fn plain_clusters()
     ensures alone { (text : List ℕ) → prefix_len is_printable text ≡ length text → graphemes true text ≡ each text }
 {}
 
-/// Letters, ideographs, syllables and signs are independent: such a character is a cluster by itself
-/// where the text ends after it, or another one follows.
-pub fn clusters_apart(text: &str)
+/// Letters, ideographs, syllables and signs are independent: each of these characters is a cluster by
+/// itself where `begins_independent` holds for the rest of the text: it is empty, or begins with
+/// another one or with half of a flag.
+pub fn clusters_independent(text: &str)
     ensures { (first : ℕ) (rest : List ℕ) → text.now ≡ encode_utf8 first ++ rest → is_independent first ≡ true
         → begins_independent rest ≡ true → graphemes true text.now ≡ encode_utf8 first ∷ graphemes true rest }
 {

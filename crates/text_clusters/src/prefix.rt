@@ -19,24 +19,24 @@ fn first_bytes(text: &str, most: usize) -> &[u8]
     &bytes[..most.min(bytes.len())]
 }
 
-// How many of the first `most` bytes stand in printable characters at the start.
+// The length of the printable prefix of the first `most` bytes.
 fn printable_run(text: &str, most: usize) -> usize
     ensures { result ≡ prefix_len is_printable (take most text.now) }
 {
     printable_len(first_bytes(text, most))
 }
 
-// Whether a byte stands at a position that isn't a printable character.
-fn is_other_at(text: &str, place: usize) -> bool
-    ensures { result ≡ (nat_lt place (length text.now) && not (is_printable (slice_index text.now place))) }
+// Whether `text` has a byte at `position`, and it isn't a printable character.
+fn is_other_at(text: &str, position: usize) -> bool
+    ensures { result ≡ (nat_lt position (length text.now) && not (is_printable (slice_index text.now position))) }
 {
-    match text.as_bytes().get(place) {
+    match text.as_bytes().get(position) {
         None => false,
         Some(byte) => !is_printable(*byte),
     }
 }
 
-/// Whether a printable ASCII character (20h to 7Eh) stands at the start.
+/// Whether the text begins with a printable ASCII character (20h to 7Eh).
 #[inline(always)]
 pub fn begins_printable(text: &str) -> bool
     ensures value { result ≡ nat_lt 0 (prefix_len is_printable text.now) }
@@ -48,7 +48,7 @@ pub fn begins_printable(text: &str) -> bool
     }
 }
 
-// How many bytes of plain text stand at the start, of `most` at the most.
+// The length in bytes of the plain prefix, at most `most`.
 fn plain_len(text: &str, most: usize) -> usize
     ensures { result ≡ min most (plain_len text.now) }
 {
@@ -65,7 +65,7 @@ fn plain_len(text: &str, most: usize) -> usize
 
 /// Cuts a text after its plain prefix, or after `most` bytes of it: printable ASCII characters (20h
 /// to 7Eh), each of which is a cluster by itself. The last of them goes to the rest where another
-/// character follows it, which may join it. No more than `most` bytes and one are looked at.
+/// character follows it, which may join it. The function reads at most `most` bytes and one.
 pub fn split_plain(text: &str, most: usize) -> (&str, &str)
     ensures prefix { result.0.now ≡ take (min most (plain_len text.now)) text.now }
     ensures rest { result.1.now ≡ drop (min most (plain_len text.now)) text.now }
@@ -75,8 +75,7 @@ pub fn split_plain(text: &str, most: usize) -> (&str, &str)
     text.split_at(plain_len(text, most))
 }
 
-// How many bytes of printable characters that nothing joins stand at the start, of `most` at the
-// most.
+// The length in bytes of the prefix of printable characters that nothing joins, at most `most`.
 #[inline(always)]
 fn independent_len(text: &str, most: usize) -> usize
     ensures { result ≡ min most (independent_len text.now) }
@@ -115,9 +114,9 @@ fn walk_first_cluster(text: &str) -> Option<(&str, &str)>
     Some((first, clusters.as_str()))
 }
 
-/// Cuts off the first cluster of a text; the rest has the other clusters. A first character that
-/// is independent, as most letters, ideographs and syllables do, is cut off without a walk where
-/// another such one follows it, or none.
+/// Cuts off the first cluster of a text; the rest has the remaining clusters. An independent first
+/// character, as most letters, ideographs and syllables are, is cut off without a walk where the
+/// text ends after it, or another independent character or half of a flag follows.
 #[inline(always)]
 pub fn split_first_cluster(text: &str) -> Option<(&str, &str)>
     ensures none { IsNone result ↔ (text.now ≡ []) }

@@ -14,7 +14,7 @@ pub fn is_printable(byte: u8) -> bool
     32 <= byte && byte < 127
 }
 
-// How many of the first sixteen bytes are printable, up to one that isn't.
+// The length of the printable prefix of the first sixteen bytes.
 #[inline(always)]
 fn block_len(bytes: &[u8]) -> usize
     requires { LANES ≤ length bytes.now }
@@ -25,7 +25,7 @@ fn block_len(bytes: &[u8]) -> usize
     first_set(stops.to_bitmask(), LANES)
 }
 
-// How many of the first eight bytes are printable, up to one that isn't.
+// The length of the printable prefix of the first eight bytes.
 #[inline(always)]
 fn half_block_len(bytes: &[u8]) -> usize
     requires { 8 ≤ length bytes.now }
@@ -36,7 +36,7 @@ fn half_block_len(bytes: &[u8]) -> usize
     first_set(stops.to_bitmask(), 8)
 }
 
-// How many of the first four bytes are printable, up to one that isn't.
+// The length of the printable prefix of the first four bytes.
 #[inline(always)]
 fn quarter_block_len(bytes: &[u8]) -> usize
     requires { 4 ≤ length bytes.now }
@@ -47,7 +47,7 @@ fn quarter_block_len(bytes: &[u8]) -> usize
     first_set(stops.to_bitmask(), 4)
 }
 
-// How many printable characters stand at the start of a few bytes, one looked at after another.
+// The length of the printable prefix of a few bytes; it tests one byte at a time.
 #[inline(always)]
 fn short_len(bytes: &[u8]) -> usize
     ensures { result ≡ prefix_len is_printable bytes.now }
@@ -55,9 +55,9 @@ fn short_len(bytes: &[u8]) -> usize
     bytes.iter().take_while(|byte| is_printable(**byte)).count()
 }
 
-// How many stand at the start of at most eight bytes: of four or more the first four are looked at, and then the last.
+// The length of the printable prefix of at most eight bytes: of four or more, it tests the first four, then the last.
 #[inline(always)]
-fn fewer_len(bytes: &[u8]) -> usize
+fn partial_half_block_len(bytes: &[u8]) -> usize
     requires { length bytes.now ≤ 8 }
     ensures { result ≡ prefix_len is_printable bytes.now }
 {
@@ -72,15 +72,15 @@ fn fewer_len(bytes: &[u8]) -> usize
     last + quarter_block_len(after(bytes, last))
 }
 
-// How many stand at the start of at most sixteen bytes: of eight or more the first eight are looked at, and then the
-// last.
+// The length of the printable prefix of at most sixteen bytes: of eight or more, it tests the first eight, then the
+// last eight.
 #[inline(always)]
-fn few_len(bytes: &[u8]) -> usize
+fn partial_block_len(bytes: &[u8]) -> usize
     requires { length bytes.now ≤ LANES }
     ensures { result ≡ prefix_len is_printable bytes.now }
 {
     if bytes.len() < 8 {
-        return fewer_len(bytes);
+        return partial_half_block_len(bytes);
     }
     let run = half_block_len(bytes);
     if run < 8 {
@@ -90,12 +90,12 @@ fn few_len(bytes: &[u8]) -> usize
     last + half_block_len(after(bytes, last))
 }
 
-/// How many printable ASCII characters (20h to 7Eh) stand at the start.
+/// The length of the prefix of printable ASCII characters (20h to 7Eh).
 pub fn printable_len(bytes: &[u8]) -> usize
     ensures { result ≡ prefix_len is_printable bytes.now }
 {
     if bytes.len() < LANES {
-        return few_len(bytes);
+        return partial_block_len(bytes);
     }
     let mut rest = bytes;
     while LANES <= rest.len() {
@@ -110,7 +110,7 @@ pub fn printable_len(bytes: &[u8]) -> usize
     last + block_len(after(bytes, last))
 }
 
-// Whether at most eight bytes are printable: of four or more the first four are looked at, and then the last.
+// Whether at most eight bytes are printable: of four or more, it tests the first four and the last four.
 #[inline(always)]
 fn fewer_are_printable(bytes: &[u8]) -> bool
     requires { length bytes.now ≤ 8 }
@@ -123,9 +123,9 @@ fn fewer_are_printable(bytes: &[u8]) -> bool
     (quarter_block_len(bytes) == 4) & (quarter_block_len(last) == 4)
 }
 
-// Whether at most sixteen bytes are printable: of eight or more the first eight are looked at, and then the last.
+// Whether at most sixteen bytes are printable: of eight or more, it tests the first eight and the last eight.
 #[inline(always)]
-fn few_are_printable(bytes: &[u8]) -> bool
+fn short_are_printable(bytes: &[u8]) -> bool
     requires { length bytes.now ≤ LANES }
     ensures { result ≡ list_all is_printable bytes.now }
 {
@@ -142,7 +142,7 @@ pub fn are_printable(bytes: &[u8]) -> bool
     ensures { result ≡ list_all is_printable bytes.now }
 {
     if bytes.len() < LANES {
-        few_are_printable(bytes)
+        short_are_printable(bytes)
     } else {
         printable_len(bytes) == bytes.len()
     }

@@ -11,7 +11,7 @@ use crate::visible_cells::{ClusteredLeft, Left, VisibleCellIter};
 use cell_base::CellAttributes;
 
 impl<'a> ClusteredLeft<'a> {
-    // The printable ASCII characters that are left first, as the row gives them; none of the half.
+    // Takes the next printable ASCII characters, as the row gives them; none of the half.
     fn pass_plain(&mut self, most: usize) -> Option<(&'a str, &'a CellAttributes)>
         ensures left { MatchOption result (left_of_clustered self.new ≡ left_of_clustered self.old)
             (λ run. left_of_clustered self.old
@@ -25,9 +25,9 @@ impl<'a> ClusteredLeft<'a> {
 }
 
 impl<'a> VisibleCellIter<'a> {
-    /// The printable ASCII characters (20h to 7Eh) that are left first, at most so many, as far as each is a cell of
-    /// one column, all have the same attributes, and they are kept side by side. They are left no more. `None`: the
-    /// next cell is another one, or none is asked for or left.
+    /// Takes the next printable ASCII characters (20h to 7Eh), at most `most`, as far as each is a cell of one column,
+    /// all have the same attributes, and they are kept side by side. `None`: the next cell is another one, `most` is
+    /// 0, or no cell is left.
     pub fn pass_plain(&mut self, most: usize) -> Option<(&'a str, &'a CellAttributes)>
         ensures left { MatchOption result (cells_left self.new ≡ cells_left self.old)
             (λ run. cells_left self.old
@@ -43,9 +43,9 @@ impl<'a> VisibleCellIter<'a> {
 }
 
 impl<'a> RegionIter<'a> {
-    /// The printable ASCII characters (20h to 7Eh) that are left first, at most so many, as far as each is a cell of
-    /// one column, all have the same attributes, and they are kept side by side. They are left no more. `None`: the
-    /// next cell is another one, or none is asked for or left.
+    /// Takes the next printable ASCII characters (20h to 7Eh), at most `most`, as far as each is a cell of one column,
+    /// all have the same attributes, and they are kept side by side. `None`: the next cell is another one, `most` is
+    /// 0, or no cell is left.
     pub fn pass_plain(&mut self, most: usize) -> Option<(&'a str, &'a CellAttributes)>
         ensures left { MatchOption result (region_left self.new ≡ region_left self.old)
             (λ run. region_left self.old

@@ -10,9 +10,9 @@ use crate::visible::ClusteredCells;
 use cell_base::CellAttributes;
 
 impl<'a> ClusteredCells<'a> {
-    /// The printable ASCII characters (20h to 7Eh) that are left first, at most so many, as far as each is a cell of
-    /// one column and all have the same attributes; a blank counts as a space. They are left no more. `None`: the next
-    /// cell is another one, or none is asked for or left.
+    /// Takes the next printable ASCII characters (20h to 7Eh), at most `most`, as far as each is a cell of one column
+    /// and all have the same attributes; a blank counts as a space. `None`: the next cell is another one, `most` is 0,
+    /// or no cell is left.
     pub fn pass_plain(&mut self, most: usize) -> Option<(&'a str, &'a CellAttributes)>
         ensures left { MatchOption result (cells_left self.new ≡ cells_left self.old) (λ run.
             cells_left self.old ≡ visible_each (next_column self.old) run.0.now run.1.now ++ cells_left self.new) }
@@ -29,7 +29,7 @@ impl<'a> ClusteredCells<'a> {
         Some((text, attributes))
     }
 
-    // As many blanks, where no written cell is left.
+    // Takes the next blanks in the same way, where no written cell is left.
     fn pass_blanks(&mut self, most: usize) -> Option<(&'a str, &'a CellAttributes)>
         ensures left { MatchOption result (cells_left self.new ≡ cells_left self.old) (λ run.
             cells_left self.old ≡ visible_each (next_column self.old) run.0.now run.1.now ++ cells_left self.new) }

@@ -6,7 +6,7 @@ use Rattle.escape_framing.specs.Segment.{Tail, Begun, bytes_of_tail, Segment, by
 use Rattle.escape_framing.specs.Decode.{Reading, next_byte, read_on}
 use Rattle.escape_framing.specs.Cut.{the_cut, tail_of}
 use Rattle.escape_framing.proofs.Existence.Utf8Lemmas.{append_nil}
-use Rattle.escape_framing.proofs.Existence.SevenBitLemmas.{no_pair, no_pair_front, no_pair_after, no_pair_form}
+use Rattle.escape_framing.proofs.Existence.SevenBitLemmas.{no_pair, no_pair_prefix, no_pair_after, no_pair_form}
 use Rattle.escape_framing.proofs.Existence.StepLemmas.{Adds}
 use Rattle.escape_framing.proofs.Existence.SequenceLemmas.{adds_next}
 use Rattle.std.proofs.lemmas.Grind.{flat_map-append}
@@ -29,7 +29,7 @@ cuts_step t b bytes a c = record {
       ∙ ap (λ l. flat_map bytes_of step.segments ++ l) c.joined ∙ whole;
   unfinished = c.unfinished;
   each = λ p. row_append step.segments rest.segments (bytes_of_tail rest.tail)
-      (subst (StandInRow step.segments) (sym c.joined) (a.each (no_pair_front (bytes_of_tail t ++ b ∷ []) bytes (subst (λ l. no_pair l ≡ true) (sym split) p)) bytes))
+      (subst (StandInRow step.segments) (sym c.joined) (a.each (no_pair_prefix (bytes_of_tail t ++ b ∷ []) bytes (subst (λ l. no_pair l ≡ true) (sym split) p)) bytes))
       (c.each (no_pair_after (flat_map bytes_of step.segments) (bytes_of_tail step.tail ++ bytes) (subst (λ l. no_pair l ≡ true) (sym whole) p)));
 }
   where

@@ -19,11 +19,11 @@ no_pair_after (x ∷ []) [] h = refl
 no_pair_after (x ∷ []) (y ∷ ys) h = (and_parts (not (is_c1 x y)) _ h).1
 no_pair_after (x ∷ z ∷ xs) ys h = no_pair_after (z ∷ xs) ys (and_parts (not (is_c1 x z)) _ h).1
 
-pub no_pair_front : (xs ys : List ℕ) → no_pair (xs ++ ys) ≡ true → no_pair xs ≡ true
-no_pair_front [] ys h = refl
-no_pair_front (x ∷ []) ys h = refl
-no_pair_front (x ∷ z ∷ xs) ys h =
-    let k = and_parts (not (is_c1 x z)) _ h in rw (k.0, no_pair_front (z ∷ xs) ys k.1) refl
+pub no_pair_prefix : (xs ys : List ℕ) → no_pair (xs ++ ys) ≡ true → no_pair xs ≡ true
+no_pair_prefix [] ys h = refl
+no_pair_prefix (x ∷ []) ys h = refl
+no_pair_prefix (x ∷ z ∷ xs) ys h =
+    let k = and_parts (not (is_c1 x z)) _ h in rw (k.0, no_pair_prefix (z ∷ xs) ys k.1) refl
 
 stop_is_no_second : (x : ℕ) → is_c1 x 0x1B ≡ false
 stop_is_no_second x = and_right (x == 0xC2) false refl

@@ -78,51 +78,51 @@ triple_wants x y z l h e m n = rw (in_range 194 244 x l h, e, in_range 0x80 0xBF
 
 -- a prefix of a list, at the positions where it can end
 module _ {X : Type 0} where
-  pub front_of_one : (a : X) (bs more : List X) → a ∷ [] ≡ bs ++ more → bs ≢ [] → more ≢ [] → ⊥
-  front_of_one a [] more e n m = n refl
-  front_of_one a (x ∷ []) more e n m = m (let h : [] ≡ more = cc in sym h)
-  front_of_one a (x ∷ y ∷ bs) more e n m = cc
+  pub prefix_of_one : (a : X) (bs more : List X) → a ∷ [] ≡ bs ++ more → bs ≢ [] → more ≢ [] → ⊥
+  prefix_of_one a [] more e n m = n refl
+  prefix_of_one a (x ∷ []) more e n m = m (let h : [] ≡ more = cc in sym h)
+  prefix_of_one a (x ∷ y ∷ bs) more e n m = cc
 
-  pub front_of_two : (a b : X) (bs more : List X) → a ∷ b ∷ [] ≡ bs ++ more → bs ≢ [] → more ≢ [] → bs ≡ a ∷ []
-  front_of_two a b [] more e n m = absurd (n refl)
-  front_of_two a b (x ∷ []) more e n m = cc
-  front_of_two a b (x ∷ y ∷ bs) more e n m =
-      let rest : b ∷ [] ≡ (y ∷ bs) ++ more = cc in absurd (front_of_one b (y ∷ bs) more rest (λ h. cc) m)
+  pub prefix_of_two : (a b : X) (bs more : List X) → a ∷ b ∷ [] ≡ bs ++ more → bs ≢ [] → more ≢ [] → bs ≡ a ∷ []
+  prefix_of_two a b [] more e n m = absurd (n refl)
+  prefix_of_two a b (x ∷ []) more e n m = cc
+  prefix_of_two a b (x ∷ y ∷ bs) more e n m =
+      let rest : b ∷ [] ≡ (y ∷ bs) ++ more = cc in absurd (prefix_of_one b (y ∷ bs) more rest (λ h. cc) m)
 
-  pub front_of_three : (a b c : X) (bs more : List X) → a ∷ b ∷ c ∷ [] ≡ bs ++ more → bs ≢ [] → more ≢ [] → (bs ≡ a ∷ []) ⊎ (bs ≡ a ∷ b ∷ [])
-  front_of_three a b c [] more e n m = absurd (n refl)
-  front_of_three a b c (x ∷ []) more e n m = inl cc
-  front_of_three a b c (x ∷ y ∷ bs) more e n m =
+  pub prefix_of_three : (a b c : X) (bs more : List X) → a ∷ b ∷ c ∷ [] ≡ bs ++ more → bs ≢ [] → more ≢ [] → (bs ≡ a ∷ []) ⊎ (bs ≡ a ∷ b ∷ [])
+  prefix_of_three a b c [] more e n m = absurd (n refl)
+  prefix_of_three a b c (x ∷ []) more e n m = inl cc
+  prefix_of_three a b c (x ∷ y ∷ bs) more e n m =
       let rest : b ∷ c ∷ [] ≡ (y ∷ bs) ++ more = cc in
-      let h = front_of_two b c (y ∷ bs) more rest (λ h. cc) m in inr cc
+      let h = prefix_of_two b c (y ∷ bs) more rest (λ h. cc) m in inr cc
 
-  front_of_four : (a b c d : X) (bs more : List X) → a ∷ b ∷ c ∷ d ∷ [] ≡ bs ++ more → bs ≢ [] → more ≢ []
+  prefix_of_four : (a b c d : X) (bs more : List X) → a ∷ b ∷ c ∷ d ∷ [] ≡ bs ++ more → bs ≢ [] → more ≢ []
       → ((bs ≡ a ∷ []) ⊎ (bs ≡ a ∷ b ∷ [])) ⊎ (bs ≡ a ∷ b ∷ c ∷ [])
-  front_of_four a b c d [] more e n m = absurd (n refl)
-  front_of_four a b c d (x ∷ []) more e n m = inl (inl cc)
-  front_of_four a b c d (x ∷ y ∷ bs) more e n m =
+  prefix_of_four a b c d [] more e n m = absurd (n refl)
+  prefix_of_four a b c d (x ∷ []) more e n m = inl (inl cc)
+  prefix_of_four a b c d (x ∷ y ∷ bs) more e n m =
       let rest : b ∷ c ∷ d ∷ [] ≡ (y ∷ bs) ++ more = cc in
-      ⊎_elim (λ h. inl (inr cc)) (λ h. inr cc) (front_of_three b c d (y ∷ bs) more rest (λ h. cc) m)
+      ⊎_elim (λ h. inl (inr cc)) (λ h. inr cc) (prefix_of_three b c d (y ∷ bs) more rest (λ h. cc) m)
 
 -- the first bytes of a character say that more are wanted
 pub wanted : (c : ℕ) (bs more : List ℕ) → IsScalar c → encode c ≡ bs ++ more → bs ≢ [] → more ≢ [] → utf8_error_len bs ≡ None
 wanted c bs more s e n m = by_kind (spelled c s)
   where
     by_kind : Spelled c → utf8_error_len bs ≡ None
-    by_kind (in_one l h) = absurd (front_of_one c bs more (sym h ∙ e) n m)
+    by_kind (in_one l h) = absurd (prefix_of_one c bs more (sym h ∙ e) n m)
     by_kind (in_two g l h) =
-        let is = front_of_two _ _ bs more (sym h ∙ e) n m in
+        let is = prefix_of_two _ _ bs more (sym h ∙ e) n m in
         rw is (lead_wants (192 + c / 64) (omega arith) (omega arith))
     by_kind (in_three g l t h) = ⊎_elim
         (λ is. rw is (lead_wants (224 + c / 4096) (omega arith) (omega arith)))
         (λ is. rw is (pair_wants (224 + c / 4096) _ (omega arith) (omega arith) (second_in_three c g l t)))
-        (front_of_three _ _ _ bs more (sym h ∙ e) n m)
+        (prefix_of_three _ _ _ bs more (sym h ∙ e) n m)
     by_kind (in_four g l h) = ⊎_elim
         (⊎_elim
         (λ is. rw is (lead_wants (240 + c / 262144) (omega arith) (omega arith)))
         (λ is. rw is (pair_wants (240 + c / 262144) _ (omega arith) (omega arith) (second_in_four c g l))))
         (λ is. rw is (triple_wants (240 + c / 262144) _ (128 + (c / 64) % 64) (omega arith) (omega arith) (second_in_four c g l) (omega arith) (omega arith)))
-        (front_of_four _ _ _ _ bs more (sym h ∙ e) n m)
+        (prefix_of_four _ _ _ _ bs more (sym h ∙ e) n m)
 
 chosen : (b : Bool) (n : ℕ) (rest : Option ℕ) → cond b rest (Some n) ≡ None → (b ≡ true) × (rest ≡ None)
 chosen true n rest h = (refl, h)

@@ -1,4 +1,4 @@
-//! Operating system commands that stand whole at the start, whose body is lent and not copied.
+//! Operating system commands that are whole at the start of the bytes, whose body is lent and not copied.
 ghost use Rattle.std.specs.Prelude.{IfSome};
 ghost use Rattle.escape_framing.specs.Read.{whole_command, ReadsEvent};
 

@@ -19,8 +19,8 @@ fn some_count(count: usize) -> Option<usize>
 }
 
 impl Framer {
-    // Reads the bytes at the start that hand nothing out and leave no character begun: parameter bytes, and those of a
-    // body or of a string that does nothing, up to one that may end it or stand for no byte of it. Answers how many
+    // Reads the bytes at the start that hand nothing out and leave no character begun: parameter bytes, and the literal
+    // bytes of a body or of a string that does nothing, up to one that may end it or be no byte of it. Returns how many
     // they are. `None`: take the general way.
     pub(crate) fn read_run(&mut self, bytes: &[u8]) -> Result<Option<usize>, AllocError>
         ensures some { IfOk result

@@ -1,4 +1,4 @@
-//! Control sequences that stand whole at the start, whose parameters are read at once.
+//! Control sequences that are whole at the start of the bytes: their parameters are read at once.
 ghost use Rattle.std.specs.Prelude.{◌≡◌, ◌≤◌, length, IfSome};
 ghost use Rattle.escape_framing.specs.Bytes.{is_final as in_finals};
 ghost use Rattle.escape_framing.specs.Prefixes.{IsLastAt};
@@ -17,7 +17,7 @@ fn is_final(byte: u8) -> bool
     matches!(byte, 0x40..=0x7e)
 }
 
-// The final byte of a control sequence after so many bytes, if it stands there.
+// The byte after the first `count` bytes, if it is the final byte of a control sequence.
 #[inline(always)]
 fn last_at(bytes: &[u8], count: usize) -> Option<u8>
     requires { count ≤ length bytes.now }
@@ -28,8 +28,8 @@ fn last_at(bytes: &[u8], count: usize) -> Option<u8>
 }
 
 impl Framer {
-    // Reads the control sequence at the start, where nothing is unfinished and all its bytes stand there: its final
-    // byte, and how many bytes it has. `None`: take the general way.
+    // Reads the control sequence at the start, where nothing is unfinished and the sequence is whole: its final byte,
+    // and how many bytes it has. `None`: take the general way.
     pub(crate) fn read_sequence(&mut self, bytes: &[u8]) -> Option<(u8, usize)>
         ensures some { IfSome result (λ s. ReadsEvent self.old.held bytes.now (whole_sequence s.0 s.1) self.new) }
         ensures held { self.new.held ≡ self.old.held }

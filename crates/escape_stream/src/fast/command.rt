@@ -1,4 +1,4 @@
-//! Operating system commands that stand whole at the start, whose body is lent from the bytes of the call.
+//! Operating system commands that are whole at the start of the bytes: their body is lent from the bytes of the call.
 ghost use Rattle.std.specs.Prelude.{◌≡◌, ◌≢◌, None, length};
 ghost use Rattle.escape_stream.specs.PiecesView.{IsGoing};
 ghost use Rattle.escape_stream.specs.Walking.{FindsWhole};
@@ -8,8 +8,8 @@ use crate::pieces::Reading;
 use std::alloc::AllocError;
 
 impl<'p, 'a> Reading<'p, 'a> {
-    // Reads the operating system command at the start of what is left, where it stands there whole. `None`: take the
-    // general way.
+    // Reads the operating system command at the start of the remaining bytes, if it is whole. `None`: take the general
+    // way.
     #[inline(always)]
     pub(crate) fn read_command(&mut self) -> Option<Result<Action, AllocError>>
         requires going { IsGoing self.old }

@@ -9,14 +9,14 @@ ghost use Rattle.escape_stream.specs.Sequences.{is_in_part};
 use escape_osc::OperatingSystemCommand;
 use std::alloc::{AllocError, Global};
 
-// How many bytes stand before the first `;` of a body.
+// How many bytes precede the first `;` of a body.
 fn first_len(body: &[u8]) -> usize
     ensures { result ≡ prefix_len is_in_part body.now }
 {
     body.iter().take_while(|byte| **byte != b';').count()
 }
 
-// What stands before the first `;` of a body, and after it.
+// The bytes before the first `;` of a body, and those after it.
 fn cut(body: &[u8]) -> Option<(&[u8], &[u8])>
     ensures some { IfSome result (λ c. parts_of body.now ≡ c.0.now ∷ parts_of c.1.now) }
     ensures none { result ≡ None → parts_of body.now ≡ body.now ∷ [] }
@@ -28,7 +28,7 @@ fn cut(body: &[u8]) -> Option<(&[u8], &[u8])>
 }
 
 // The command of a body of two or three parts. `None`: take the general way.
-pub(crate) fn command_of_few(
+pub(crate) fn command_of_short(
     alloc: Global,
     body: &[u8],
 ) -> Option<Result<OperatingSystemCommand, AllocError>>

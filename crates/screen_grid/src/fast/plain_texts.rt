@@ -30,7 +30,7 @@ impl<W: Widths + Drop> Grid<W> {
         text.len() <= self.width - self.column && are_printable(text.as_bytes())
     }
 
-    // Puts the characters of such a text, each of which is a cluster by itself.
+    // Puts the characters of a printable text, each of which is a cluster by itself.
     #[inline(always)]
     pub(crate) fn put_plain(&mut self, text: &str) -> Result<(), AllocError>
         requires drawn { IsDrawn self.old }

@@ -8,20 +8,20 @@ use Rattle.cell_edits.proofs.row.cut_at.Goals.{else-at-gt0-via-then-at-gt0+else-
 pub returns-in_ok-split_cell-clause-whole : goal.returns-in_ok-split_cell-clause-whole
 returns-in_ok-split_cell-clause-whole c =
     let cells = c.args.cells.now.items in
-    let halved : ends_split (take c.args.at cells) ≡ true = ap (λ xs. ends_split (take c.args.at xs)) (sym c.deref.ensures.value) ∙ sym c.is_split.ensures ∙ c.if-is_split.true in
-    cut_is_whole cells c.split_cell.new.cells.items (c.args.at - 1) c.args.at (omega arith) halved (omega arith) c.in_ok-split_cell.ensures.before
+    let was_split : ends_split (take c.args.at cells) ≡ true = ap (λ xs. ends_split (take c.args.at xs)) (sym c.deref.ensures.value) ∙ sym c.is_split.ensures ∙ c.if-is_split.true in
+    cut_is_whole cells c.split_cell.new.cells.items (c.args.at - 1) c.args.at (omega arith) was_split (omega arith) c.in_ok-split_cell.ensures.before
 
 pub returns-in_ok-split_cell-clause-before : goal.returns-in_ok-split_cell-clause-before
 returns-in_ok-split_cell-clause-before c =
     let cells = c.args.cells.now.items in
-    let halved : ends_split (take c.args.at cells) ≡ true = ap (λ xs. ends_split (take c.args.at xs)) (sym c.deref.ensures.value) ∙ sym c.is_split.ensures ∙ c.if-is_split.true in
-    cut_before cells c.split_cell.new.cells.items (c.args.at - 1) c.args.at (omega arith) halved (omega arith) c.in_ok-split_cell.ensures.before
+    let was_split : ends_split (take c.args.at cells) ≡ true = ap (λ xs. ends_split (take c.args.at xs)) (sym c.deref.ensures.value) ∙ sym c.is_split.ensures ∙ c.if-is_split.true in
+    cut_before cells c.split_cell.new.cells.items (c.args.at - 1) c.args.at (omega arith) was_split (omega arith) c.in_ok-split_cell.ensures.before
 
 pub returns-in_ok-split_cell-clause-after : goal.returns-in_ok-split_cell-clause-after
 returns-in_ok-split_cell-clause-after c =
     let cells = c.args.cells.now.items in
-    let halved : ends_split (take c.args.at cells) ≡ true = ap (λ xs. ends_split (take c.args.at xs)) (sym c.deref.ensures.value) ∙ sym c.is_split.ensures ∙ c.if-is_split.true in
-    cut_after cells c.split_cell.new.cells.items (c.args.at - 1) c.args.at (omega arith) halved (omega arith) (omega arith)
+    let was_split : ends_split (take c.args.at cells) ≡ true = ap (λ xs. ends_split (take c.args.at xs)) (sym c.deref.ensures.value) ∙ sym c.is_split.ensures ∙ c.if-is_split.true in
+    cut_after cells c.split_cell.new.cells.items (c.args.at - 1) c.args.at (omega arith) was_split (omega arith) (omega arith)
     (λ l. c.in_ok-split_cell.ensures.after (omega arith))
 
 pub returns-in_ok-split_cell-clause-earlier : goal.returns-in_ok-split_cell-clause-earlier

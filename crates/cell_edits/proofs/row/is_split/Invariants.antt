@@ -7,7 +7,7 @@ use Rattle.cell_edits.proofs.row.is_split.Given as goal
 abbrev pub invariant-loop-position : goal.invariant-loop-position
 invariant-loop-position l = record {
   within : l.position ≤ l.at;
-  turned : (if l.halved then not (ends_split (take l.position l.cells)) else ends_split (take l.position l.cells)) ≡ ends_split (take l.at l.cells);
+  turned : (if l.was_split then not (ends_split (take l.position l.cells)) else ends_split (take l.position l.cells)) ≡ ends_split (take l.at l.cells);
 }
 
 abbrev pub decreases-loop-position : goal.decreases-loop-position

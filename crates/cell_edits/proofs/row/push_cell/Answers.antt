@@ -2,7 +2,7 @@ use Rattle.std.proofs.Common.{◌∙◌, ◌++◌, ◌∷◌, [], List, ap, sym,
 use Rattle.cell_base.specs.CellContent.{CellContent, row_of_cells}
 use Rattle.cell_base.specs.Row.{Row}
 use Rattle.cell_edits.specs.CellList.{ends_split}
-use Rattle.cell_edits.proofs.CellLemmas.{wide_is, narrow_is, row_wide, halved_wide, row_joined, halved_joined}
+use Rattle.cell_edits.proofs.CellLemmas.{wide_is, narrow_is, row_wide, split_wide, row_joined, split_joined}
 use Rattle.cell_edits.proofs.CutLemmas.{row_narrow_any, columns_wide, columns_narrow}
 use Rattle.cell_edits.proofs.row.push_cell.Goals as goal
 
@@ -11,7 +11,7 @@ returns-in_ok-push-2-clause-whole c =
     let cells = c.args.cells.now.items in
     let b = c.blank.result in
     ap ends_split (c.in_ok-push-2.ensures.items ∙ ap (λ (l : List CellContent). l ++ b ∷ []) c.in_ok-push.ensures.items ∙ append_assoc cells (c.args.cell ∷ []) (b ∷ []))
-    ∙ halved_joined cells (c.args.cell ∷ b ∷ []) c.requires ∙ halved_wide c.args.cell b [] (wide_is c.args.cell.width (omega arith))
+    ∙ split_joined cells (c.args.cell ∷ b ∷ []) c.requires ∙ split_wide c.args.cell b [] (wide_is c.args.cell.width (omega arith))
 
 pub returns-in_ok-push-2-clause-row : goal.returns-in_ok-push-2-clause-row
 returns-in_ok-push-2-clause-row c =
@@ -23,7 +23,7 @@ returns-in_ok-push-2-clause-row c =
 
 pub returns-else-is_wide-clause-whole : goal.returns-else-is_wide-clause-whole
 returns-else-is_wide-clause-whole c =
-    ap ends_split c.in_ok-push.ensures.items ∙ halved_joined c.args.cells.now.items (c.args.cell ∷ []) c.requires ∙ narrow_is c.args.cell.width (omega arith)
+    ap ends_split c.in_ok-push.ensures.items ∙ split_joined c.args.cells.now.items (c.args.cell ∷ []) c.requires ∙ narrow_is c.args.cell.width (omega arith)
 
 pub returns-else-is_wide-clause-row : goal.returns-else-is_wide-clause-row
 returns-else-is_wide-clause-row c =

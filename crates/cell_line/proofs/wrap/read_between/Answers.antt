@@ -3,14 +3,14 @@ use Rattle.std.specs.Global.{Vec}
 use Rattle.cell_base.specs.Attributes.{plain}
 use Rattle.cell_base.specs.Row.{Row, blank}
 use Rattle.cell_base.specs.CellContent.{CellContent, blank_cell, row_of_cells}
-use Rattle.cell_line.proofs.BetweenLemmas.{halved_last, between_within, between_before, between_after}
+use Rattle.cell_line.proofs.BetweenLemmas.{split_last, between_within, between_before, between_after}
 use Rattle.cell_line.proofs.wrap.read_between.Goals as goal
 use Rattle.cell_line.proofs.wrap.read_between.Goals.{then-start-last+then-last-end+in_ok-push_blank_for, else-start-last, else-start-last-via-then-start-last+else-last-end, else-start-last-via-else-start-last}
 
 pub copy_between-requires-2 : goal.copy_between-requires-2
 copy_between-requires-2 c =
     let cells = c.args.cells.now in
-    (halved_last cells (length cells) _ (blank_cell plain) refl refl (sym c.is_split.ensures ∙ c.if-not-is_split.false)).1
+    (split_last cells (length cells) _ (blank_cell plain) refl refl (sym c.is_split.ensures ∙ c.if-not-is_split.false)).1
 
 pub returns : goal.returns
 returns c =

@@ -3,13 +3,13 @@ use Rattle.std.specs.Prelude.{fold}
 use Rattle.unicode_segmentation.specs.Iter.{graphemes_left}
 use Rattle.cell_base.specs.Cluster.{clusters}
 use Rattle.screen_effects.specs.Strokes.{Cluster}
-use Rattle.change_sequence.specs.Places.{place_of}
+use Rattle.change_sequence.specs.Positions.{position_of}
 use Rattle.change_sequence.specs.Sequence.{stroke_moved}
 use Rattle.change_sequence.proofs.moves.after_run.Given as goal
 
 -- what is left leads to where the whole leads
 abbrev pub invariant-loop-cluster : goal.invariant-loop-cluster
 invariant-loop-cluster g l =
-    (fold (stroke_moved (g.W.Widths.width_of l.widths) l.columns) (place_of l.position) (map Cluster (graphemes_left l.cluster-iterator))
-    ≡ fold (stroke_moved (g.W.Widths.width_of l.widths) l.columns) (place_of l.initial.position) (map Cluster (clusters l.text)))
+    (fold (stroke_moved (g.W.Widths.width_of l.widths) l.columns) (position_of l.position) (map Cluster (graphemes_left l.cluster-iterator))
+    ≡ fold (stroke_moved (g.W.Widths.width_of l.widths) l.columns) (position_of l.initial.position) (map Cluster (clusters l.text)))
     × (l.position.0 ≤ l.columns)

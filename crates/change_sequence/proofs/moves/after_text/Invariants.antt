@@ -3,14 +3,14 @@ use denote.Text.{Utf8}
 use Rattle.std.proofs.Common.{◌≡◌, ◌≤◌, length}
 use Rattle.screen_effects.specs.Parts.{IsAtControl}
 use Rattle.screen_effects.specs.Strokes.{text_parts}
-use Rattle.change_sequence.specs.Places.{place_of}
+use Rattle.change_sequence.specs.Positions.{position_of}
 use Rattle.change_sequence.specs.Sequence.{parts_moved}
 use Rattle.change_sequence.proofs.moves.after_text.Given as goal
 
 -- what is left leads to where the whole leads
 abbrev pub invariant-loop-control : goal.invariant-loop-control
 invariant-loop-control g l = record {
-  leads : parts_moved (g.W.Widths.width_of l.widths) l.columns (place_of l.position) (text_parts l.rest) ≡ parts_moved (g.W.Widths.width_of l.widths) l.columns (place_of l.fn.position) (text_parts l.text);
+  leads : parts_moved (g.W.Widths.width_of l.widths) l.columns (position_of l.position) (text_parts l.rest) ≡ parts_moved (g.W.Widths.width_of l.widths) l.columns (position_of l.fn.position) (text_parts l.text);
   within : l.position.0 ≤ l.columns;
   control : IsAtControl l.rest;
   text : shadow (Utf8 l.rest);

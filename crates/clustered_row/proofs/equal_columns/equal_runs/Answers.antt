@@ -1,7 +1,7 @@
 use Rattle.std.proofs.Common.{◌∙◌, List, ap, arith, length}
 use Rattle.clustered_row.specs.declared.run.Run.{Run}
 use Rattle.clustered_row.specs.Runs.{spread}
-use Rattle.clustered_row.proofs.EqualLemmas.{part_within, runs_within, same_part, same_runs_front}
+use Rattle.clustered_row.proofs.EqualLemmas.{part_within, runs_within, same_part, same_runs_prefix}
 use Rattle.clustered_row.proofs.equal_columns.equal_runs.Goals as goal
 
 pub overflow_add-result : goal.overflow_add-result
@@ -51,4 +51,4 @@ returns-clause-other_within c =
 
 pub returns-clause-equal : goal.returns-clause-equal
 returns-clause-equal c =
-    same_runs_front c.args.runs.now c.args.remaining.now c.loop-at.at c.loop-at.columns c.loop-at.invariant.same c.loop-at.invariant.counted
+    same_runs_prefix c.args.runs.now c.args.remaining.now c.loop-at.at c.loop-at.columns c.loop-at.invariant.same c.loop-at.invariant.counted

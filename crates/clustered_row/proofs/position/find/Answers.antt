@@ -1,7 +1,7 @@
 use Rattle.std.proofs.Common.{◌≡◌, ◌+◌, ◌-◌, arith, refl}
 use Rattle.clustered_row.specs.Sizes.{width_of}
 use Rattle.clustered_row.specs.declared.position.Position.{Position}
-use Rattle.clustered_row.proofs.StepLemmas.{next_read, next_place_read}
+use Rattle.clustered_row.proofs.StepLemmas.{next_read, next_position_read}
 use Rattle.clustered_row.proofs.position.find.Goals as goal
 
 pub overflow_add-bytes : goal.overflow_add-bytes
@@ -20,7 +20,7 @@ loop-index-preserved c =
     let columns : c.args.at - (left - c.columns-left.result) ≡ c.args.at - left + width_of x.is_wide =
     omega (arith, c.columns-left.ensures, c.columns.ensures, c.if-left-columns.false, c.loop-index.invariant.left) in
     record {
-      position = next_place_read c.args.sizes.now now next x c.loop-index.invariant.position c.loop-index-test.true c.index-sizes-index.is refl refl columns;
+      position = next_position_read c.args.sizes.now now next x c.loop-index.invariant.position c.loop-index-test.true c.index-sizes-index.is refl refl columns;
       order = omega (arith, c.loop-index.invariant.order);
       left = omega (arith, c.loop-index.invariant.left);
     }

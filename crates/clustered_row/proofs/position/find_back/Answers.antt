@@ -1,5 +1,5 @@
 use Rattle.std.proofs.Common.{arith}
-use Rattle.clustered_row.proofs.StepLemmas.{index_order, index_within, last_sums, place_before, some_before, before_next, wide_or_narrow, place_inside, found_halved}
+use Rattle.clustered_row.proofs.StepLemmas.{index_order, index_within, last_sums, position_before, some_before, before_next, wide_or_narrow, position_inside, found_split}
 use Rattle.clustered_row.proofs.position.find_back.Goals as goal
 
 pub loop-position-init : goal.loop-position-init
@@ -35,7 +35,7 @@ loop-position-preserved c =
     let some = some_before sizes now c.args.at position c.loop-position-test.true in
     let order = index_order sizes c.args.from now c.requires.position position (omega (arith, c.requires.order, c.loop-position-test.true)) in
     record {
-      position = place_before sizes now c.before-position.result x position some c.index-sizes-position.is before.index before.bytes before.columns;
+      position = position_before sizes now c.before-position.result x position some c.index-sizes-position.is before.index before.bytes before.columns;
       order = omega (arith, order, before.index);
       next = λ d. before_next sizes now c.before-position.result x d c.args.at position some c.index-sizes-position.is c.loop-position-test.true before.index before.columns;
     }
@@ -44,5 +44,5 @@ pub returns-clause-cell : goal.returns-clause-cell
 returns-clause-cell c d less =
     let sizes = c.args.sizes.now in
     let now = c.loop-position.position in
-    let inside = place_inside sizes now c.args.end c.args.at c.loop-position.invariant.position c.requires.end c.requires.last less in
-    found_halved sizes now c.args.at d inside less (c.loop-position.invariant.next d)
+    let inside = position_inside sizes now c.args.end c.args.at c.loop-position.invariant.position c.requires.end c.requires.last less in
+    found_split sizes now c.args.at d inside less (c.loop-position.invariant.next d)

@@ -2,7 +2,7 @@ use Rattle.std.proofs.Common.{rules, arith, ap, sym, subst, ◌∙◌, ◌≡◌
 use Rattle.clustered_row.specs.Runs.{columns_of, spread, AreMaximal}
 use Rattle.clustered_row.specs.RunSteps.{counted}
 use Rattle.std.proofs.lemmas.Bool.{false≢true}
-use Rattle.clustered_row.proofs.RunSteps.{joined_columns, joined_front, apart_front}
+use Rattle.clustered_row.proofs.RunSteps.{joined_columns, joined_prefix, independent_prefix}
 use Rattle.clustered_row.proofs.run_steps.join_before.Goals as goal
 
 pub returns-then-not-has-clause-maximal : goal.returns-then-not-has-clause-maximal
@@ -14,7 +14,7 @@ returns-then-not-has-clause-maximal c =
     let e : n + 1 ≡ c.args.kept = omega arith in
     let other : c.has.result ≡ false = search rules in
     subst (λ m. AreMaximal (take m runs ++ run ∷ [])) e
-    (apart_front runs n last run (omega arith) c.index-runs-kept.is (λ same. absurd (false≢true (sym other ∙ c.has.ensures.1 same))) c.requires.some (subst (λ m. AreMaximal (take m runs)) (sym e) c.requires.maximal))
+    (independent_prefix runs n last run (omega arith) c.index-runs-kept.is (λ same. absurd (false≢true (sym other ∙ c.has.ensures.1 same))) c.requires.some (subst (λ m. AreMaximal (take m runs)) (sym e) c.requires.maximal))
 
 pub returns-clause-columns : goal.returns-clause-columns
 returns-clause-columns c =
@@ -33,4 +33,4 @@ returns-clause-maximal c =
     let n = c.args.kept - 1 in
     let e : n + 1 ≡ c.args.kept = omega arith in
     let same : last.attributes ≡ run.attributes = search rules in
-    joined_front runs n last (counted run (run.count + last.count)) (omega arith) c.index-runs-kept.is same (omega arith) (subst (λ m. AreMaximal (take m runs)) (sym e) c.requires.maximal)
+    joined_prefix runs n last (counted run (run.count + last.count)) (omega arith) c.index-runs-kept.is same (omega arith) (subst (λ m. AreMaximal (take m runs)) (sym e) c.requires.maximal)

@@ -2,7 +2,7 @@ use Rattle.std.proofs.Common.{arith, ap, ◌∙◌, ◌≡◌, ◌+◌, ◌<◌,
 use Rattle.clustered_row.specs.declared.run.Run.{Run}
 use Rattle.std.proofs.lemmas.List.Edits.{length-swap}
 use Rattle.cell_base.specs.Attributes.{plain}
-use Rattle.clustered_row.proofs.RunSteps.{moved_front, moved_after}
+use Rattle.clustered_row.proofs.RunSteps.{moved_prefix, moved_after}
 use Rattle.clustered_row.proofs.run_steps.remove.Goals as goal
 
 abbrev no_run : Run
@@ -20,6 +20,6 @@ loop-k-preserved c =
     let within : to + k < length now = omega arith in
     let e = c.swap.ensures.items in (
       ap length e ∙ length-swap now (from + k) (to + k) ∙ long,
-      ap (λ ys. take (from + (k + 1)) ys) e ∙ moved_front now old from to k no_run less within long c.loop-k.invariant.1 c.loop-k.invariant.2,
+      ap (λ ys. take (from + (k + 1)) ys) e ∙ moved_prefix now old from to k no_run less within long c.loop-k.invariant.1 c.loop-k.invariant.2,
       ap (λ ys. drop (to + (k + 1)) ys) e ∙ moved_after now old from to k no_run less within c.loop-k.invariant.2,
     )

@@ -35,7 +35,7 @@ loop-next-preserved g c =
       walked = subst (λ (s : List CellSize). IsWalked f c.args.room c.args.text.now s (c.loop-next.columns + width) c.loop-next.rest.now) (sym c.in_ok-push.ensures.items)
           (subst (IsWalked f c.args.room c.args.text.now _ (c.loop-next.columns + width)) (sym rest)
           (walk_more f c.args.room c.args.text.now c.loop-next.sizes.items c.loop-next.columns c.loop-next.left.now n width c.size_of.result walked c.loop-next.invariant.first c.loop-next.invariant.text
-          c.size_of.ensures.len c.size_of.ensures.wide (ap begins_independent (sym rest) ∙ c.in-Some-first_single.ensures.apart) (omega (arith, within, c.if-room-columns.false))));
+          c.size_of.ensures.len c.size_of.ensures.wide (ap begins_independent (sym rest) ∙ c.in-Some-first_single.ensures.independent) (omega (arith, within, c.if-room-columns.false))));
       text = c.loop-next.invariant.after;
       after = c.after-rest-in-Some-first_single.utf8;
       rest = c.after-rest-in-Some-first_single.ensures;

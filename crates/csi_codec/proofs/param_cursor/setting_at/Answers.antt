@@ -1,5 +1,5 @@
 use Rattle.std.proofs.Common.{rules, ◌≡◌, ◌<◌, ◌≤◌, ◌+◌, true, false, drop, length, length-drop, arith, sym, ap, ◌∙◌}
-use Rattle.csi_codec.proofs.PlaceLemmas.{first_lost, first_next, further_next, none_next, rendition_fits, reset_first, some_read}
+use Rattle.csi_codec.proofs.CoordinateLemmas.{first_lost, first_next, further_next, none_next, rendition_fits, reset_first, some_read}
 use Rattle.std.proofs.lemmas.Bool.{true≢false}
 use Rattle.csi_codec.specs.Actions.{all_sgr_tokens}
 use Rattle.csi_codec.specs.Parsing.{HasNoSetting}

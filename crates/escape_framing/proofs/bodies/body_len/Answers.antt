@@ -13,10 +13,10 @@ pub overflow_add-result : goal.overflow_add-result
 overflow_add-result c =
     let l = prefix_len-le-length is_body_byte c.args.bytes.now in
     let r = body_run c.args.bytes.now in
-    let e : c.few_len.result ≡ prefix_len is_body_byte (drop (prefix_len is_printable c.args.bytes.now) c.args.bytes.now) = c.few_len.ensures ∙ ap (prefix_len is_body_byte) (c.after.ensures ∙ ap (λ n. drop n c.args.bytes.now) c.printable_len-plain.ensures) in
+    let e : c.short_len.result ≡ prefix_len is_body_byte (drop (prefix_len is_printable c.args.bytes.now) c.args.bytes.now) = c.short_len.ensures ∙ ap (prefix_len is_body_byte) (c.after.ensures ∙ ap (λ n. drop n c.args.bytes.now) c.printable_len-plain.ensures) in
     omega (arith, c.printable_len-plain.ensures)
 
 pub returns : goal.returns
 returns c =
-    (λ i. c.printable_len-plain.ensures i + (c.few_len.ensures ∙ ap (prefix_len is_body_byte) (c.after.ensures ∙ ap (λ n. drop n c.args.bytes.now) c.printable_len-plain.ensures)) i)
+    (λ i. c.printable_len-plain.ensures i + (c.short_len.ensures ∙ ap (prefix_len is_body_byte) (c.after.ensures ∙ ap (λ n. drop n c.args.bytes.now) c.printable_len-plain.ensures)) i)
     ∙ body_run c.args.bytes.now

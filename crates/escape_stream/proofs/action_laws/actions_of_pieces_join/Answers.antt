@@ -1,4 +1,4 @@
-use Rattle.escape_stream.proofs.ActionPlaces.{actions_join}
+use Rattle.escape_stream.proofs.ActionOffsets.{actions_join}
 use Rattle.escape_stream.proofs.action_laws.actions_of_pieces_join.Goals as goal
 
 pub returns : goal.returns

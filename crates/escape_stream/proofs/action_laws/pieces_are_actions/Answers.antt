@@ -1,6 +1,6 @@
 use Rattle.escape_stream.proofs.SpellLemmas.{pieces_spell}
 use Rattle.escape_stream.proofs.SpokenLemmas.{pieces_say}
-use Rattle.escape_stream.proofs.ApartPieces.{pieces_apart}
+use Rattle.escape_stream.proofs.SeparatePieces.{pieces_separate}
 use Rattle.escape_stream.proofs.action_laws.pieces_are_actions.Goals as goal
 
 pub returns-clause-placed : goal.returns-clause-placed
@@ -9,5 +9,5 @@ returns-clause-placed c = pieces_spell
 pub returns-clause-decided : goal.returns-clause-decided
 returns-clause-decided c = pieces_say
 
-pub returns-clause-apart : goal.returns-clause-apart
-returns-clause-apart c = pieces_apart
+pub returns-clause-separate : goal.returns-clause-separate
+returns-clause-separate c = pieces_separate

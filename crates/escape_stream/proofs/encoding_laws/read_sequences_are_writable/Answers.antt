@@ -14,4 +14,4 @@ each_back ts final [] r f = tt
 each_back ts final (a ∷ remaining) r f = (λ e. record { prefix = whole_front (spelling_of a); stands = f.0; whole = refl; action = r.0 e }, each_back ts final remaining r.1 f.1)
 
 pub returns : goal.returns
-returns c = λ ts final spelled few low high. each_back ts final (csi_reading ts false final) (c.actions_read_back.ensures ts false final) (c.texts_are_fronts.ensures ts false final spelled few low high)
+returns c = λ ts final spelled short low high. each_back ts final (csi_reading ts false final) (c.actions_read_back.ensures ts false final) (c.texts_are_fronts.ensures ts false final spelled short low high)

@@ -3,7 +3,7 @@ use Rattle.std.specs.Prelude.{IsUtf8}
 use Rattle.std.proofs.lemmas.Str.{IsUtf8-drop, IsUtf8-take}
 use Rattle.text_clusters.proofs.TextLemmas.{joined_clusters}
 use Rattle.screen_effects.specs.Parts.{IsAtControl, plain_part}
-use Rattle.screen_effects.proofs.TextLemmas.{parts_cut, control_next, front_stands, cut_boundary}
+use Rattle.screen_effects.proofs.TextLemmas.{parts_cut, control_next, prefix_stands, cut_boundary}
 use Rattle.screen_effects.specs.Strokes.{text_parts}
 use Rattle.screen_effects.proofs.text.split_at_control.Goals as goal
 
@@ -18,7 +18,7 @@ returns-clause-parts c =
 pub returns-clause-stands : goal.returns-clause-stands
 returns-clause-stands c =
     let text = c.args.text.now in
-    front_stands text c.split_at.result.0.now (c.split_at.ensures.front ∙ ap (λ n. take n text) c.plain_len.ensures) (joined_clusters c.split_at.result.0.now (subst IsUtf8 (sym (c.split_at.ensures.front ∙ ap (λ n. take n text) c.plain_len.ensures)) (IsUtf8-take text _ c.utf8.text (cut_boundary text))))
+    prefix_stands text c.split_at.result.0.now (c.split_at.ensures.front ∙ ap (λ n. take n text) c.plain_len.ensures) (joined_clusters c.split_at.result.0.now (subst IsUtf8 (sym (c.split_at.ensures.front ∙ ap (λ n. take n text) c.plain_len.ensures)) (IsUtf8-take text _ c.utf8.text (cut_boundary text))))
 
 pub returns-clause-control : goal.returns-clause-control
 returns-clause-control c =

@@ -14,5 +14,5 @@ loop-at-preserved c =
     record {
       dropped = ap (λ (change : Change). take (now.at + 1) (slice_set now.changes now.at change)) position ∙ one_dropped now.changes now.at there now.invariant.dropped;
       rest = ap (λ (change : Change). drop (now.at + 1) (slice_set now.changes now.at change)) position ∙ rest_stays now.changes c.args.changes.now now.at now.invariant.rest;
-      spare = c.drop_change.ensures;
+      pool = c.drop_change.ensures;
     }

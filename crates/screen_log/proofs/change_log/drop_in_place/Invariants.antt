@@ -8,5 +8,5 @@ abbrev pub invariant-loop-at : goal.invariant-loop-at
 invariant-loop-at l = record {
   dropped : take l.at l.changes ≡ replicate l.at nothing;
   rest : drop l.at l.changes ≡ drop l.at l.fn.changes;
-  spare : l.spare ≤ 65536;
+  pool : l.pool ≤ 65536;
 }

@@ -19,12 +19,12 @@ paint_rows-requires-clause-filled g c =
 pub returns : goal.returns
 returns g c =
     c.in_ok-changes.ensures
-    ∙ repainted (display_of c.args.grid.now) c.args.also_empty c.new-writer.result c.write_clear.new.writer c.write_titles.new.writer c.paint_rows.new.writer c.write_place.new.writer c.write_pen.new.writer c.write_cursor.new.writer c.in_ok-painted.painted
+    ∙ repainted (display_of c.args.grid.now) c.args.also_empty c.new-writer.result c.write_clear.new.writer c.write_titles.new.writer c.paint_rows.new.writer c.write_position.new.writer c.write_pen.new.writer c.write_cursor.new.writer c.in_ok-painted.painted
     (c.new-writer.ensures ∙ ap begun c.requires.plain)
     c.in_ok-write_clear.ensures
     (c.in_ok-write_titles.ensures ∙ ap (λ (t : List ℕ). with_changes (titles c.args.also_empty t) c.write_clear.new.writer) c.title.ensures)
     (c.in_ok-painted.ensures.written ∙ ap (λ (ls : List LineContent). with_changes (rows_painted c.write_titles.new.writer.pen (rows_of ls)) c.write_titles.new.writer) c.lines.ensures)
     (c.in_ok-painted.ensures.any ∙ ap (λ (ls : List LineContent). are_some (rows_painted c.write_titles.new.writer.pen (rows_of ls))) c.lines.ensures)
-    (c.in_ok-write_place.ensures ∙ (λ i. with_changes (cursor_placed c.in_ok-painted.painted (c.cursor_position.ensures.column i) (c.cursor_position.ensures.row i)) c.paint_rows.new.writer))
-    (c.in_ok-write_pen.ensures ∙ ap (λ (a : Attributes). with_changes (attributes_due c.write_place.new.writer.pen a) c.write_place.new.writer) c.pen-pen.ensures)
+    (c.in_ok-write_position.ensures ∙ (λ i. with_changes (cursor_placed c.in_ok-painted.painted (c.cursor_position.ensures.column i) (c.cursor_position.ensures.row i)) c.paint_rows.new.writer))
+    (c.in_ok-write_pen.ensures ∙ ap (λ (a : Attributes). with_changes (attributes_due c.write_position.new.writer.pen a) c.write_position.new.writer) c.pen-pen.ensures)
     (c.in_ok-write_cursor.ensures ∙ (λ i. with_changes (cursor_shown (c.cursor_visibility.ensures i) (c.cursor_shape.ensures i)) c.write_pen.new.writer))

@@ -19,7 +19,7 @@ loop-rest-preserved c =
     }
 
 pub returns : goal.returns
-returns c = omega (arith, c.loop-rest.invariant.within, c.loop-rest.invariant.counted, c.few_len-few.ensures, prefix_len-le-length (λ byte. not (is_ascii_control byte)) c.loop-rest.rest.now)
+returns c = omega (arith, c.loop-rest.invariant.within, c.loop-rest.invariant.counted, c.partial_block_len-short.ensures, prefix_len-le-length (λ byte. not (is_ascii_control byte)) c.loop-rest.rest.now)
 
 pub overflow_sub-result-2 : goal.overflow_sub-result-2
-overflow_sub-result-2 c = omega (arith, c.few_len-few.ensures, prefix_len-le-length (λ byte. not (is_ascii_control byte)) c.loop-rest.rest.now)
+overflow_sub-result-2 c = omega (arith, c.partial_block_len-short.ensures, prefix_len-le-length (λ byte. not (is_ascii_control byte)) c.loop-rest.rest.now)

@@ -1,6 +1,6 @@
 use Rattle.std.proofs.Common.{rules, sym, true, ◌≡◌, ◌∙◌}
 use Rattle.text_clusters.specs.Independent.{BeginsWith, is_independent}
-use Rattle.text_clusters.proofs.ApartLemmas.{cut_before, single_seam, with_stands}
+use Rattle.text_clusters.proofs.IndependentLemmas.{cut_before, single_seam, with_stands}
 use Rattle.text_clusters.proofs.TextLemmas.{first_alone}
 use Rattle.text_clusters.proofs.independent.split_independent.Goals as goal
 

@@ -1,7 +1,7 @@
 use Rattle.std.proofs.Common.{rules, ◌≡◌, ◌∙◌, sym}
 use Rattle.std.specs.Prelude.{Some}
 use Rattle.std.specs.List.{slice_get}
-use Rattle.text_clusters.proofs.ApartLemmas.{byte_begins}
+use Rattle.text_clusters.proofs.IndependentLemmas.{byte_begins}
 use Rattle.text_clusters.proofs.prefix.begins_printable.Goals as goal
 
 pub returns-in-Some-clause-first : goal.returns-in-Some-clause-first

@@ -2,17 +2,17 @@ use Rattle.std.proofs.Common.{◌∙◌, ◌++◌, true, ap, sym, subst, take, d
 use Rattle.std.specs.List.{list_all}
 use Rattle.unicode_segmentation.specs.Grapheme.{graphemes}
 use Rattle.text_clusters.specs.Plain.{is_printable, each}
-use Rattle.text_clusters.proofs.ApartLemmas.{apart_front_printable, apart_front_boundary, apart_front_cut}
+use Rattle.text_clusters.proofs.IndependentLemmas.{independent_prefix_printable, independent_prefix_boundary, independent_prefix_cut}
 use Rattle.text_clusters.proofs.prefix.split_printable.Goals as goal
 
 pub split_at-requires : goal.split_at-requires
-split_at-requires c = subst (IsCharBoundary c.args.text.now) (sym c.independent_len.ensures) (apart_front_boundary c.args.text.now c.args.most c.utf8.text)
+split_at-requires c = subst (IsCharBoundary c.args.text.now) (sym c.independent_len.ensures) (independent_prefix_boundary c.args.text.now c.args.most c.utf8.text)
 
 pub returns-clause-printable : goal.returns-clause-printable
-returns-clause-printable c = ap (list_all is_printable) (c.split_at.ensures.front ∙ ap (λ n. take n c.args.text.now) c.independent_len.ensures) ∙ apart_front_printable c.args.text.now c.args.most
+returns-clause-printable c = ap (list_all is_printable) (c.split_at.ensures.front ∙ ap (λ n. take n c.args.text.now) c.independent_len.ensures) ∙ independent_prefix_printable c.args.text.now c.args.most
 
 pub returns-clause-clusters : goal.returns-clause-clusters
 returns-clause-clusters c =
     let text = c.args.text.now in
-    apart_front_cut text c.args.most
+    independent_prefix_cut text c.args.most
     ∙ (λ i. each (sym (c.split_at.ensures.front ∙ ap (λ n. take n text) c.independent_len.ensures) i) ++ graphemes true (sym (c.split_at.ensures.back ∙ ap (λ n. drop n text) c.independent_len.ensures) i))

@@ -36,7 +36,7 @@ use Rattle.cell_base.specs.CellContent.{CellContent}
 use Rattle.cell_base.specs.contracts.cell.Cell.{the_row as cell}
 use Rattle.cell_line.specs.LineContent.{LineContent}
 use Rattle.cell_line.specs.contracts.line.Line.{the_row as line}
-use Rattle.cell_line.proofs.LentSteps.{stayed, Settles, Slices, arm_body, clauses, Lent, Answered, at_settled, at_slice, Post, Goes, Same, Told, told, Sliced, sliced, cases, leaves, leaves_refused}
+use Rattle.cell_line.proofs.LentSteps.{stayed, Settles, Slices, arm_body, clauses, Lent, Answered, at_settled, at_slice, Post, Goes, Same, Ensured, ensured, Sliced, sliced, cases, leaves, leaves_refused}
 use Rattle.cell_line.specs.LentCells.{LendsStored}
 use Rattle.cell_line.proofs.line.Line.settled_cells.Symbol.{name as #settled_cells}
 use Rattle.cell_line.proofs.line.Line.settled_cells.Met as settled_cells
@@ -67,8 +67,8 @@ module _ {M : Type 1} {𝓤 : Ura M} (𝓛 : Logic 𝓤) (at_mem : Memory → SP
         let Then : After 𝓤 H = any_q (after_seq 𝓤 H (Wp 𝓤 H C Λ En rest (at_return 𝓤 H En End)) (at_return 𝓤 H En End)) in
         sets ! (addr ! (through ! refl (stop !))) refl (tt, tt) $
         calls_at ! fm c settles here (and_then ! (get ! refl) (no_more !)) (λ v.
-        use1 𝓛 (later (some (λ (a : X.Denot). ((‵ (flft κ q) ⊛ ‵ ftrue) ⊛ ‵ (X.own_val a (v ∷ []))) ⊛ raw (Told 𝓛 at_mem run κ q b o γ content a)))) (id⊢ 𝓤 _) $ await ! tt $ pick ! (λ a.
-        split ! $ split ! $ move ! (2 ∷ []) $ use1 𝓛 (given (Same 𝓛 at_mem run κ q b o γ content a) (‵ (LendsStored self a))) (told 𝓛 at_mem run κ q b o γ content a) $ learn ! (λ same.
+        use1 𝓛 (later (some (λ (a : X.Denot). ((‵ (flft κ q) ⊛ ‵ ftrue) ⊛ ‵ (X.own_val a (v ∷ []))) ⊛ raw (Ensured 𝓛 at_mem run κ q b o γ content a)))) (id⊢ 𝓤 _) $ await ! tt $ pick ! (λ a.
+        split ! $ split ! $ move ! (2 ∷ []) $ use1 𝓛 (given (Same 𝓛 at_mem run κ q b o γ content a) (‵ (LendsStored self a))) (ensured 𝓛 at_mem run κ q b o γ content a) $ learn ! (λ same.
         move ! (2 ∷ []) $ cases 𝓛 at_mem run κ q b o γ content ! a v same
         (λ x shown e. let y = at_slice 𝓛 at_mem run κ q b o γ content x in
         -- [the vector's reference; what follows it; the tokens]

@@ -6,7 +6,7 @@ use Rattle.cell_base.specs.Row.{space}
 use Rattle.cell_edits.specs.CellList.{ends_split}
 use Rattle.cell_edits.specs.VisibleCells.{visible_at}
 use Rattle.cell_edits.proofs.CellLemmas.{by_test}
-use Rattle.cell_views.proofs.RegionLemmas.{region_clean, region_none, region_halved}
+use Rattle.cell_views.proofs.RegionLemmas.{region_clean, region_none, region_split}
 use Rattle.cell_views.proofs.region.RegionIter.of_cells.Goals as goal
 use Rattle.cell_views.proofs.region.RegionIter.of_cells.Goals.{else-start-end-via-then-start-end+else-is_split}
 use Rattle.cell_views.proofs.region.RegionIter.of_cells.Goals.{else-start-end-via-else-start-end}
@@ -15,16 +15,16 @@ pub returns-then-is_split : goal.returns-then-is_split
 returns-then-is_split c =
     let cells = c.args.cells.now in
     let start = c.args.start in
-    let halved : ends_split (take start cells) ≡ true = sym c.is_split.ensures ∙ c.if-is_split.true in
+    let was_split : ends_split (take start cells) ≡ true = sym c.is_split.ensures ∙ c.if-is_split.true in
     let some : 0 < start = by_test (nat_lt 0 start)
     (λ t. ltb-true 0 start t)
     (λ t.
     let no_more = ltb-false 0 start t in
     let zero : start ≡ 0 = omega arith in
-    absurd (false≢true (sym (ap (λ n. ends_split (take n cells)) zero) ∙ halved))) in
+    absurd (false≢true (sym (ap (λ n. ends_split (take n cells)) zero) ∙ was_split))) in
     let attributes = c.attrs.ensures ∙ ap (λ (x : CellContent). x.attributes) c.index-cells-start.is in
     (λ i. visible_at start space 1 (attributes i) ∷ c.from_column.ensures i)
-    ∙ region_halved cells start c.args.end c.index-cells-start.result some (omega arith) c.requires.within halved
+    ∙ region_split cells start c.args.end c.index-cells-start.result some (omega arith) c.requires.within was_split
 
 pub returns : goal.returns
 returns c =

@@ -4,7 +4,7 @@ use Rattle.clustered_row.specs.TextsShown.{faces}
 use Rattle.clustered_row.specs.VisibleColumns.{is_split}
 use Rattle.clustered_row.specs.VisibleRuns.{attributes_left}
 use Rattle.clustered_row.specs.VisibleTexts.{faces_left}
-use Rattle.clustered_row.proofs.AskedLemmas.{halved_face}
+use Rattle.clustered_row.proofs.AskedLemmas.{split_face}
 use Rattle.clustered_row.proofs.BetweenLemmas.{row_between, length_between}
 use Rattle.clustered_row.proofs.ColumnLemmas.{counted}
 use Rattle.clustered_row.proofs.columns.Columns.between.Goals as goal
@@ -17,11 +17,11 @@ between-requires-clause-within c =
 
 pub between-requires-clause-first : goal.between-requires-clause-first
 between-requires-clause-first c =
-    sym (halved_face (faces c.self.inside.texts) c.self.inside.runs c.args.from (sym c.self.invariant.even)) ∙ ap (is_split c.args.from) c.self.view_is ∙ c.requires.first
+    sym (split_face (faces c.self.inside.texts) c.self.inside.runs c.args.from (sym c.self.invariant.even)) ∙ ap (is_split c.args.from) c.self.view_is ∙ c.requires.first
 
 pub between-requires-clause-last : goal.between-requires-clause-last
 between-requires-clause-last c =
-    sym (halved_face (faces c.self.inside.texts) c.self.inside.runs c.args.to (sym c.self.invariant.even)) ∙ ap (is_split c.args.to) c.self.view_is ∙ c.requires.last
+    sym (split_face (faces c.self.inside.texts) c.self.inside.runs c.args.to (sym c.self.invariant.even)) ∙ ap (is_split c.args.to) c.self.view_is ∙ c.requires.last
 
 pub left_from-requires : goal.left_from-requires
 left_from-requires c =

@@ -2,7 +2,7 @@ use Rattle.std.proofs.Common.{◌≡◌, ◌∙◌, false, sym, ap, length, take
 use Rattle.cell_base.specs.Row.{Column, Row}
 use Rattle.clustered_row.specs.TextsShown.{faces}
 use Rattle.clustered_row.specs.VisibleColumns.{is_split}
-use Rattle.clustered_row.proofs.AskedLemmas.{halved_face}
+use Rattle.clustered_row.proofs.AskedLemmas.{split_face}
 use Rattle.clustered_row.proofs.EqualLemmas.{same_columns}
 use Rattle.clustered_row.proofs.RowLemmas.{length-row_of}
 use Rattle.clustered_row.proofs.columns.Columns.equal_columns.Goals as goal
@@ -36,10 +36,10 @@ pub returns-clause-whole : goal.returns-clause-whole
 returns-clause-whole c =
     let even = c.self.invariant.even in
     subst (λ (r : Row). is_split c.equal_columns.result r ≡ false) c.self.view_is
-    (halved_face (faces c.self.inside.texts) c.self.inside.runs c.equal_columns.result (omega (arith, even)) ∙ c.equal_columns.ensures.whole)
+    (split_face (faces c.self.inside.texts) c.self.inside.runs c.equal_columns.result (omega (arith, even)) ∙ c.equal_columns.ensures.whole)
 
 pub returns-clause-other_whole : goal.returns-clause-other_whole
 returns-clause-other_whole c =
     let even = c.other.invariant.even in
     subst (λ (r : Row). is_split c.equal_columns.result r ≡ false) c.other.view_is
-    (halved_face (faces c.other.inside.texts) c.other.inside.runs c.equal_columns.result (omega (arith, even)) ∙ c.equal_columns.ensures.other_whole)
+    (split_face (faces c.other.inside.texts) c.other.inside.runs c.equal_columns.result (omega (arith, even)) ∙ c.equal_columns.ensures.other_whole)

@@ -3,7 +3,7 @@ use Rattle.cell_base.specs.Row.{Row}
 use Rattle.clustered_row.specs.Faces.{row_of}
 use Rattle.clustered_row.specs.TextsShown.{faces}
 use Rattle.clustered_row.specs.VisibleColumns.{is_split}
-use Rattle.clustered_row.proofs.AskedLemmas.{halved_face}
+use Rattle.clustered_row.proofs.AskedLemmas.{split_face}
 use Rattle.clustered_row.proofs.EqualAtEndLemmas.{same_columns_after}
 use Rattle.clustered_row.proofs.RowLemmas.{length-row_of}
 use Rattle.clustered_row.proofs.columns.Columns.equal_columns_at_end.Goals as goal
@@ -33,7 +33,7 @@ returns-clause-whole c =
     let even = c.self.invariant.even in
     let long = length-row_of (faces one.texts) one.runs (omega (arith, even)) in
     subst (λ (r : Row). is_split (length r - n) r ≡ false) c.self.view_is
-    (ap (λ m. is_split (m - n) (row_of (faces c.self.inside.texts) c.self.inside.runs)) long ∙ halved_face (faces one.texts) one.runs (length (faces one.texts) - n) (omega (arith, even)) ∙ c.equal_columns_at_end.ensures.whole)
+    (ap (λ m. is_split (m - n) (row_of (faces c.self.inside.texts) c.self.inside.runs)) long ∙ split_face (faces one.texts) one.runs (length (faces one.texts) - n) (omega (arith, even)) ∙ c.equal_columns_at_end.ensures.whole)
 
 pub returns-clause-other_whole : goal.returns-clause-other_whole
 returns-clause-other_whole c =
@@ -42,4 +42,4 @@ returns-clause-other_whole c =
     let even = c.other.invariant.even in
     let long = length-row_of (faces one.texts) one.runs (omega (arith, even)) in
     subst (λ (r : Row). is_split (length r - n) r ≡ false) c.other.view_is
-    (ap (λ m. is_split (m - n) (row_of (faces c.other.inside.texts) c.other.inside.runs)) long ∙ halved_face (faces one.texts) one.runs (length (faces one.texts) - n) (omega (arith, even)) ∙ c.equal_columns_at_end.ensures.other_whole)
+    (ap (λ m. is_split (m - n) (row_of (faces c.other.inside.texts) c.other.inside.runs)) long ∙ split_face (faces one.texts) one.runs (length (faces one.texts) - n) (omega (arith, even)) ∙ c.equal_columns_at_end.ensures.other_whole)

@@ -1,7 +1,7 @@
 use Rattle.std.proofs.Common.{◌+◌, refl, ◌<◌, arith, ap, sym, ◌∙◌}
 use Rattle.clustered_row.specs.Faces.{opened}
 use Rattle.clustered_row.specs.CutTexts.{shown}
-use Rattle.clustered_row.proofs.StepLemmas.{sized_of, place_within, a_size, opened_here}
+use Rattle.clustered_row.proofs.StepLemmas.{sized_of, position_within, a_size, opened_here}
 use Rattle.clustered_row.proofs.cut_text.CutText.open.Goals as goal
 
 pub returns-then-position-at-clause-faces : goal.returns-then-position-at-clause-faces
@@ -26,5 +26,5 @@ returns-clause-position c =
 pub overflow_add-result-2 : goal.overflow_add-result-2
 overflow_add-result-2 c =
     let t = c.args.self.now in
-    let k = place_within t.text.items t.sizes.items t.sized_bytes t.sized_columns c.position-position.result (sized_of t) c.position-position.ensures.position in
+    let k = position_within t.text.items t.sizes.items t.sized_bytes t.sized_columns c.position-position.result (sized_of t) c.position-position.ensures.position in
     omega (arith, k, t.within, t.text.ok.0, t.text.ok.1, t.text.small)

@@ -1,6 +1,6 @@
 use Rattle.std.proofs.Common.{arith}
 use Rattle.clustered_row.proofs.SizeLemmas.{IsUtf8-cut}
-use Rattle.clustered_row.proofs.StepLemmas.{sized_of, split_point, place_order, place_within, replaced_sized, replaced_shown}
+use Rattle.clustered_row.proofs.StepLemmas.{sized_of, split_point, position_order, position_within, replaced_sized, replaced_shown}
 use Rattle.clustered_row.proofs.cut_text.CutText.replace.Goals as goal
 
 pub replace_text-requires-clause-utf8 : goal.replace_text-requires-clause-utf8
@@ -11,7 +11,7 @@ replace_text-requires-clause-utf8 c =
 pub replace_text-requires-clause-order : goal.replace_text-requires-clause-order
 replace_text-requires-clause-order c =
     let t = c.args.self.now in
-    place_order t.sizes.items c.args.from c.args.to c.requires.from c.requires.to c.requires.order
+    position_order t.sizes.items c.args.from c.args.to c.requires.from c.requires.to c.requires.order
 
 pub replace_text-requires-clause-start : goal.replace_text-requires-clause-start
 replace_text-requires-clause-start c =
@@ -26,20 +26,20 @@ replace_text-requires-clause-cut c =
 pub overflow_add-self : goal.overflow_add-self
 overflow_add-self c =
     let t = c.args.self.now in
-    let order = place_order t.sizes.items c.args.from c.args.to c.requires.from c.requires.to c.requires.order in
-    let within = place_within t.text.items t.sizes.items t.sized_bytes t.sized_columns c.args.to (sized_of t) c.requires.to in
+    let order = position_order t.sizes.items c.args.from c.args.to c.requires.from c.requires.to c.requires.order in
+    let within = position_within t.text.items t.sizes.items t.sized_bytes t.sized_columns c.args.to (sized_of t) c.requires.to in
     omega (arith, order, within, t.within, t.text.ok.0, t.text.ok.1, t.text.small)
 
 pub overflow_sub-self : goal.overflow_sub-self
 overflow_sub-self c =
     let t = c.args.self.now in
-    place_within t.text.items t.sizes.items t.sized_bytes t.sized_columns c.args.to (sized_of t) c.requires.to
+    position_within t.text.items t.sizes.items t.sized_bytes t.sized_columns c.args.to (sized_of t) c.requires.to
 
 pub overflow_add-self-2 : goal.overflow_add-self-2
 overflow_add-self-2 c =
     let t = c.args.self.now in
-    let order = place_order t.sizes.items c.args.from c.args.to c.requires.from c.requires.to c.requires.order in
-    let within = place_within t.text.items t.sizes.items t.sized_bytes t.sized_columns c.args.to (sized_of t) c.requires.to in
+    let order = position_order t.sizes.items c.args.from c.args.to c.requires.from c.requires.to c.requires.order in
+    let within = position_within t.text.items t.sizes.items t.sized_bytes t.sized_columns c.args.to (sized_of t) c.requires.to in
     omega (arith, order, within, t.within, t.text.ok.0, t.text.ok.1, t.text.small)
 
 pub invariant_of-self : goal.invariant_of-self

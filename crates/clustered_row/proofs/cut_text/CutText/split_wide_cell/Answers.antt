@@ -6,7 +6,7 @@ use Rattle.clustered_row.specs.CutTexts.{shown}
 use Rattle.clustered_row.specs.Faces.{Own}
 use Rattle.clustered_row.specs.Sizes.{width_of}
 use Rattle.clustered_row.proofs.SizeLemmas.{columns_few}
-use Rattle.clustered_row.proofs.StepLemmas.{sized_of, a_size, next_read, next_place_read, halved_shown, halved_place, take_first}
+use Rattle.clustered_row.proofs.StepLemmas.{sized_of, a_size, next_read, next_position_read, split_shown, split_position, take_first}
 use Rattle.clustered_row.proofs.cut_text.CutText.split_wide_cell.Goals as goal
 
 pub index-requires : goal.index-requires
@@ -34,7 +34,7 @@ pub replace-requires-clause-to : goal.replace-requires-clause-to
 replace-requires-clause-to c =
     let t = c.args.self.now in
     let wide = c.requires.wide a_size in
-    next_place_read t.sizes.items c.args.position c.after-next.result c.index.result.now c.requires.position wide.within c.index.ensures
+    next_position_read t.sizes.items c.args.position c.after-next.result c.index.result.now c.requires.position wide.within c.index.ensures
     c.after-next.ensures.index c.after-next.ensures.bytes c.after-next.ensures.columns
 
 pub returns-clause-faces : goal.returns-clause-faces
@@ -44,11 +44,11 @@ returns-clause-faces c =
     let is_wide = ap (λ (x : CellSize). x.is_wide) c.index.ensures ∙ wide.wide in
     let columns = c.after-next.ensures.columns ∙ ap (λ (w : Bool). c.args.position.columns + width_of w) is_wide in
     c.replace.ensures.row ∙ ap (λ n. splice (shown t) c.args.position.columns n (Own space ∷ Own space ∷ [])) columns
-    ∙ halved_shown t.text.items t.sizes.items t.sized_bytes t.sized_columns c.args.position (c.args.position.columns + 1) c.index.result.now (sized_of t) c.requires.position wide
+    ∙ split_shown t.text.items t.sizes.items t.sized_bytes t.sized_columns c.args.position (c.args.position.columns + 1) c.index.result.now (sized_of t) c.requires.position wide
 
 pub returns-clause-position : goal.returns-clause-position
 returns-clause-position c q index bytes columns =
     let t = c.args.self.now in
     let wide = c.requires.wide a_size in
     let first = ap (take (c.args.position.index + 1)) c.replace.ensures.sizes ∙ take_first t.sizes.items c.args.position.index c.after-next.result.index _ _ c.requires.position.within in
-    halved_place t.sizes.items c.replace.new.self.sizes.items c.args.position q _ refl wide.within first c.requires.position index bytes columns
+    split_position t.sizes.items c.replace.new.self.sizes.items c.args.position q _ refl wide.within first c.requires.position index bytes columns

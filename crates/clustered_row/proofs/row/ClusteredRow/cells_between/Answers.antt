@@ -1,19 +1,19 @@
 use Rattle.std.proofs.Common.{◌∙◌, ◌-◌, ◌++◌, ap, refl, min, drop, take, length, replicate, List, arith}
 use Rattle.cell_base.specs.Row.{Column, blank}
 use Rattle.clustered_row.specs.VisibleColumns.{is_split}
-use Rattle.clustered_row.proofs.BetweenLemmas.{halved_within, blanks_between}
+use Rattle.clustered_row.proofs.BetweenLemmas.{split_within, blanks_between}
 use Rattle.clustered_row.proofs.ShownLemmas.{length-shown}
 use Rattle.clustered_row.proofs.row.ClusteredRow.cells_between.Goals as goal
 
 pub between-requires-clause-first : goal.between-requires-clause-first
 between-requires-clause-first c =
     let r = c.self.inside in
-    halved_within r.columns (replicate (r.width - length r.columns) (blank r.rest)) c.args.start c.min-from.result (c.min-from.ensures ∙ ap (min c.args.start) c.len-len.ensures.len) (ap (is_split c.args.start) c.self.view_is ∙ c.requires.first)
+    split_within r.columns (replicate (r.width - length r.columns) (blank r.rest)) c.args.start c.min-from.result (c.min-from.ensures ∙ ap (min c.args.start) c.len-len.ensures.len) (ap (is_split c.args.start) c.self.view_is ∙ c.requires.first)
 
 pub between-requires-clause-last : goal.between-requires-clause-last
 between-requires-clause-last c =
     let r = c.self.inside in
-    halved_within r.columns (replicate (r.width - length r.columns) (blank r.rest)) c.args.stop c.min-to.result (c.min-to.ensures ∙ ap (min c.args.stop) c.len-len.ensures.len) (ap (is_split c.args.stop) c.self.view_is ∙ c.requires.last)
+    split_within r.columns (replicate (r.width - length r.columns) (blank r.rest)) c.args.stop c.min-to.result (c.min-to.ensures ∙ ap (min c.args.stop) c.len-len.ensures.len) (ap (is_split c.args.stop) c.self.view_is ∙ c.requires.last)
 
 pub returns-clause-row : goal.returns-clause-row
 returns-clause-row c =

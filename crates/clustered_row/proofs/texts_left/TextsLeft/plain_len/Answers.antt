@@ -2,7 +2,7 @@ use Rattle.std.proofs.Common.{◌∙◌, ap, arith, take}
 use Rattle.std.specs.List.{list_all}
 use Rattle.std.proofs.lemmas.List.{length-take-le}
 use Rattle.clustered_row.specs.Sizes.{is_plain}
-use Rattle.clustered_row.proofs.PlainLemmas.{sizes_few, plain_front, plain_all}
+use Rattle.clustered_row.proofs.PlainLemmas.{sizes_few, plain_prefix, plain_all}
 use Rattle.clustered_row.proofs.texts_left.TextsLeft.plain_len.Goals as goal
 
 pub returns-then-plain-sizes-clause-within : goal.returns-then-plain-sizes-clause-within
@@ -16,7 +16,7 @@ returns-then-plain-sizes-clause-within c =
 pub returns-then-plain-sizes-clause-plain : goal.returns-then-plain-sizes-clause-plain
 returns-then-plain-sizes-clause-plain c =
     let left = c.args.self.now in
-    ap (λ n. list_all is_plain (take n left.sizes.now)) c.plain_sizes-plain.ensures ∙ plain_front c.min.result left.sizes.now
+    ap (λ n. list_all is_plain (take n left.sizes.now)) c.plain_sizes-plain.ensures ∙ plain_prefix c.min.result left.sizes.now
 
 pub returns-clause-plain : goal.returns-clause-plain
 returns-clause-plain c =

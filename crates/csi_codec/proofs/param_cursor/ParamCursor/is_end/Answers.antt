@@ -1,5 +1,5 @@
 use Rattle.std.proofs.Common.{rules, arith, ◌≤◌, ◌<◌, length}
-use Rattle.csi_codec.proofs.PlaceLemmas.{none_after, first_to_come, more_to_come}
+use Rattle.csi_codec.proofs.CoordinateLemmas.{none_after, first_to_come, more_to_come}
 use Rattle.csi_codec.proofs.param_cursor.ParamCursor.is_end.Goals as goal
 
 pub returns-then-read-eq0-clause-more : goal.returns-then-read-eq0-clause-more

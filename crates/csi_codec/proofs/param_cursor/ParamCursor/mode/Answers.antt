@@ -3,7 +3,7 @@ use Rattle.csi_codec.specs.Actions.{mode}
 use Rattle.csi_codec.specs.Actions.{found_mode}
 use Rattle.csi_codec.specs.Parsing.{kind_of}
 use Rattle.csi_codec.proofs.PieceLemmas.{group_of_takes}
-use Rattle.csi_codec.proofs.PlaceLemmas.{mode_next, no_mode}
+use Rattle.csi_codec.proofs.CoordinateLemmas.{mode_next, no_mode}
 use Rattle.csi_codec.proofs.param_cursor.ParamCursor.mode.Goals as goal
 
 pub overflow_add-self : goal.overflow_add-self

@@ -1,7 +1,7 @@
 use Rattle.std.proofs.Common.{rules, ◌≡◌, ◌||◌, nat_lt, true, false, arith}
 use Rattle.std.specs.Prelude.{◌==◌}
 use Rattle.csi_codec.specs.Laws.{begins_with_question}
-use Rattle.csi_codec.proofs.PlaceLemmas.{last_step, single_first, none_after, private_modes, standard_modes}
+use Rattle.csi_codec.proofs.CoordinateLemmas.{last_step, single_first, none_after, private_modes, standard_modes}
 use Rattle.csi_codec.proofs.param_cursor.ParamCursor.next.Goals as goal
 
 pub returns-then-read-max : goal.returns-then-read-max

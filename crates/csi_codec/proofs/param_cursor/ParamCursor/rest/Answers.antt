@@ -1,7 +1,7 @@
 use Rattle.std.proofs.Common.{rules, [], ◌∷◌, Some, ap, sym, ◌∙◌}
 use Rattle.csi_codec.specs.Actions.{unspecified}
 use Rattle.csi_codec.specs.Sequences.{HandsOut}
-use Rattle.csi_codec.proofs.PlaceLemmas.{last_step}
+use Rattle.csi_codec.proofs.CoordinateLemmas.{last_step}
 use Rattle.csi_codec.proofs.param_cursor.ParamCursor.rest.Goals as goal
 
 pub returns : goal.returns

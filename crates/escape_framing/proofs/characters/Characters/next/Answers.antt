@@ -4,16 +4,16 @@ use Rattle.escape_framing.specs.Segment.{Begun, IsUnfinished}
 use Rattle.escape_framing.specs.Held.{InCharacter, character_step}
 use Rattle.escape_framing.specs.Event.{GoesOn}
 use Rattle.escape_framing.specs.Characters.{Breaks}
-use Rattle.escape_framing.proofs.CharacterLemmas.{take_set, front_one, filled, waits_unfinished, begun_more, waits_goes, whole_goes, begun_goes}
+use Rattle.escape_framing.proofs.CharacterLemmas.{take_set, prefix_one, filled, waits_unfinished, begun_more, waits_goes, whole_goes, begun_goes}
 use Rattle.escape_framing.proofs.BreaksLemmas.{whole_goes_on, begun_goes_on, broken_breaks}
 use Rattle.escape_framing.proofs.characters.Characters.next.Goals as goal
 
 pub invariant_of-self : goal.invariant_of-self
-invariant_of-self c = (omega arith, subst (λ l. IsUnfinished (Begun l)) (sym (front_one c.self.inside.bytes c.args.byte (omega arith))) (waits_unfinished c.args.byte c.in-Waits.ensures))
+invariant_of-self c = (omega arith, subst (λ l. IsUnfinished (Begun l)) (sym (prefix_one c.self.inside.bytes c.args.byte (omega arith))) (waits_unfinished c.args.byte c.in-Waits.ensures))
 
 pub returns-in-Waits-clause-steps : goal.returns-in-Waits-clause-steps
 returns-in-Waits-clause-steps c =
-    waits_goes _ _ _ c.args.byte c.in-Waits.is (front_one c.self.inside.bytes c.args.byte (omega arith)) (sym c.self.view_is ∙ ap (λ (n : ℕ). take n c.self.inside.bytes) c.if-count-eq0.true) c.in-Waits.ensures
+    waits_goes _ _ _ c.args.byte c.in-Waits.is (prefix_one c.self.inside.bytes c.args.byte (omega arith)) (sym c.self.view_is ∙ ap (λ (n : ℕ). take n c.self.inside.bytes) c.if-count-eq0.true) c.in-Waits.ensures
 
 pub invariant_of-self-in-Begun : goal.invariant_of-self-in-Begun
 invariant_of-self-in-Begun c =

@@ -1,7 +1,7 @@
 use Rattle.std.proofs.Common.{◌≡◌, ◌++◌, ◌∙◌, false, refl, ap, sym, rules}
 use Rattle.escape_framing.specs.Lending.{Lending}
 use Rattle.escape_framing.proofs.RunLemmas.{parameters_silent, body_silent, string_silent}
-use Rattle.escape_framing.proofs.FrontLemmas.{reads_some}
+use Rattle.escape_framing.proofs.PrefixLemmas.{reads_some}
 use Rattle.escape_framing.proofs.framer.Framer.read_run.Goals as goal
 
 pub returns-in-ControlSequence-clause-some : goal.returns-in-ControlSequence-clause-some

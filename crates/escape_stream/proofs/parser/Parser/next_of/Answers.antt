@@ -6,8 +6,8 @@ use Rattle.escape_stream.proofs.AdvanceLemmas.{gives_left}
 use Rattle.escape_stream.proofs.parser.Parser.next_of.Goals as goal
 use Rattle.escape_stream.proofs.parser.Parser.next_of.Goals.{then-is_none, then-is_none-via-then-is_none, then-is_none-via-else-is_none+then-is_over, else-is_none+else-is_over}
 
-apart : {b : Bool} → b ≡ true → b ≡ false → ⊥
-apart t f = cc
+separate : {b : Bool} → b ≡ true → b ≡ false → ⊥
+separate t f = cc
 
 pub returns-clause-gives : goal.returns-clause-gives
 returns-clause-gives c =
@@ -19,7 +19,7 @@ returns-clause-gives c =
     let left : is_none c.in_ok-action.action ≡ false → actions_left p (Some c.next.new.self) ≡ actions_left p c.if-is_none.sequence
     = λ some. elim c.if-is_none.branch [
       | then-is_none w ↦ elim w.then-is_none.branch [
-        | then-is_none-via-then-is_none v ↦ let none : is_none c.in_ok-action.action ≡ true = search rules in absurd (apart none some)
+        | then-is_none-via-then-is_none v ↦ let none : is_none c.in_ok-action.action ≡ true = search rules in absurd (separate none some)
         | then-is_none-via-else-is_none+then-is_over v ↦ v.is_over.ensures p tokens v.if-is_over.true ∙ ap (actions_left p) (sym w.sequence-is)
       ]
       | else-is_none+else-is_over w ↦ ap (actions_left p) (sym w.sequence-is)

@@ -1,5 +1,5 @@
 use Rattle.std.proofs.Common.{◌≡◌, ◌-◌, ◌++◌, List, length, take, drop, ap, ◌∙◌, arith}
-use Rattle.screen_grid.proofs.RingLemmas.{as_many, refilled_by, rotated_front, turned_on}
+use Rattle.screen_grid.proofs.RingLemmas.{as_many, refilled_by, rotated_prefix, turned_on}
 use Rattle.screen_grid.proofs.ring.Ring.turn_at_end.Goals as goal
 
 pub returns-then-self-eq0-clause-len : goal.returns-then-self-eq0-clause-len
@@ -21,7 +21,7 @@ returns-then-self-eq0-clause-prefix g c =
     let value = ap (λ (l : List g.row.T.Denot). take inside.len (drop inside.start l)) c.deref_mut.ensures.value ∙ c.self.view_is in
     ap (λ (l : List g.row.T.Denot). take (length old - 1) (take inside.len (drop inside.start l))) (refilled_by inside.items.len xs c.rotate.new.items inside.items.ok.0 same)
     ∙ ap (take (length old - 1)) (c.rotate.ensures.turned ∙ ap (λ (l : List g.row.T.Denot). drop 1 l ++ take 1 l) value)
-    ∙ rotated_front old
+    ∙ rotated_prefix old
 
 pub returns-clause-len : goal.returns-clause-len
 returns-clause-len g c =

@@ -21,7 +21,7 @@ returns c =
     let items = a.changes.items in
     let lent = c.deref.result.now in
     let number = c.args.number in
-    let within : a.start ≤ length items = let g = c.self.invariant.gone in omega arith in
+    let within : a.start ≤ length items = let g = c.self.invariant.few_dropped in omega arith in
     let numbered = c.self.invariant.numbered in
     let at = a.start + (number - (a.number - (length items - a.start))) in
     let at_len = a.start + (number - (a.number - (c.len.result - a.start))) in

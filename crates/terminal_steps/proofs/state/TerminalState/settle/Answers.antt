@@ -8,5 +8,5 @@ use Rattle.terminal_steps.proofs.state.TerminalState.settle.Goals as goal
 
 pub returns-clause-done : goal.returns-clause-done
 returns-clause-done g c = λ ready events. settled_had (λ w. g.W.Widths.width_of w) c.args.self.now _ c.print.new.surface (search rules) refl (search rules) refl refl
-    (subst (λ (s : Surface g.row.W.Denot). AddsAll (λ w. g.W.Widths.width_of w) s c.print.new.surface (run_change (string_bytes c.args.self.now.held) ∷ [])) c.spare_text-next.ensures.same
-    (subst (λ t. AddsAll (λ w. g.W.Widths.width_of w) c.spare_text-next.new.self c.print.new.surface (run_change (string_bytes t) ∷ [])) c.replace-text.ensures.value c.in_ok-print.ensures.added)) ready
+    (subst (λ (s : Surface g.row.W.Denot). AddsAll (λ w. g.W.Widths.width_of w) s c.print.new.surface (run_change (string_bytes c.args.self.now.held) ∷ [])) c.pooled_text-next.ensures.same
+    (subst (λ t. AddsAll (λ w. g.W.Widths.width_of w) c.pooled_text-next.new.self c.print.new.surface (run_change (string_bytes t) ∷ [])) c.replace-text.ensures.value c.in_ok-print.ensures.added)) ready

@@ -1,5 +1,0 @@
-use Rattle.terminal.proofs.TakeLemmas.{taken_together}
-use Rattle.terminal.proofs.laws.replies_stand_apart.Goals as goal
-
-pub returns : goal.returns
-returns g c = taken_together (λ w. g.W.Widths.width_of w)
