@@ -218,7 +218,8 @@ def row(name, result):
     costs = (*result.reads, *(result.call or [None] * 3))
     numbers = [f"{shown(it, '.1f' if (it or 0) < 10_000 else '.0f'):>8}" for it in costs]
     numbers += [f"{shown(it, '.1f', MB):>7}" for it in result.peaks]
-    return f"{name:31}{result.length / 1000:6.0f}{''.join(numbers)}{shown(result.kept, '.2f'):>7}  {' '.join(result.marks)}"
+    marks = " ".join(result.marks)
+    return f"{name:31}{result.length / 1000:6.0f}{''.join(numbers)}{shown(result.kept, '.2f'):>7}  {marks}"
 
 
 def first_update(width, height):

@@ -55,7 +55,8 @@ def endings(crate, cases, files=()):
         for name, (words, given) in cases.items():
             Path(folder, name).write_bytes(given)
             Path(folder, name + ".args").write_text("".join(word + "\n" for word in words))
-        words = [kit_command(), "try", "--cases", folder, *(word for it in files for word in ("--data", f"{it.name}={it}"))]
+        data = [word for it in files for word in ("--data", f"{it.name}={it}")]
+        words = [kit_command(), "try", "--cases", folder, *data]
         ran = subprocess.run(words, cwd=ROOT / "crates" / crate, capture_output=True)
     parts = re.split(rb"^== (\S+)\n", ran.stdout, flags=re.M)
     written = {name.decode(): output for name, output in zip(parts[1::2], parts[2::2])}

@@ -1,4 +1,9 @@
 //! Runs one part of the stack over standard input, to be measured, and prints a number that rests on all that it did.
+//!
+//! - `lists`: control sequences, read and written over and over.
+//! - `parts`: the parts of the stack that can be measured.
+//! - `resizes`: a terminal that is resized again and again.
+//! - `surfaces`: surfaces that are changed.
 #![tactic(auto)]
 
 mod lists;

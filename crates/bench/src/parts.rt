@@ -4,8 +4,9 @@ use escape_stream::{Parser, encode};
 use std::alloc::Global;
 use terminal::{ProgramWidth, Terminal};
 
-pub const NAMES: &str =
-    "bench parse | pieces | collect | encode | show | read_list | write_list | lines | words | due | due_large | large | patch | resizes, and how often";
+pub const NAMES: &str = "\
+bench parse | pieces | collect | encode | show | read_list | write_list | lines | words | due | due_large | large \
+| patch | resizes, and how often";
 
 /// A part of the stack.
 #[derive(Clone, Copy)]

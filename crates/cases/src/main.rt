@@ -1,4 +1,42 @@
 //! Runs tables of cases: calls, their arguments and the answers that they must have.
+//!
+//! - `actions`: actions as rows write them, in words near their `Debug`.
+//! - `attributes`: attributes as rows write them: a word for each one that isn't plain, as `italic`,
+//!   `underline=Curly`, `background=1` (a colour of the palette), `link=URI`, `found_link=URI` (one that was found
+//!   in a text).
+//! - `call`: the calls that are made of a line, as a row writes them.
+//! - `changes`: changes, as rows write them: a text in quotes, all attributes by their words, a position as `to X
+//!   Y`, where `3` is counted from the start, `<1` from the end, and `+1` and `-1` from the cursor; a colour as
+//!   `Default` or its number in the palette; a row's size and the cursor's shape by their names.
+//! - `codes`: codes by number and by name.
+//! - `commands`: Operating system commands, selections and links.
+//! - `edits`: calls that edit the line, with their arguments in the order of the call's and the number last.
+//! - `escapes`: bytes as a table writes them, both ways: `\x1b` is a byte, `\u{304b}` a character, `\n` and `\r`
+//!   are LF and CR, `\s` is a space, `\\` is `\`, and `<<128 of 1;>>` is the text `1;` 128 times.
+//! - `fault`: why a row can't be run.
+//! - `framing`: events of streams.
+//! - `keeping`: how a line is kept while calls are made of it.
+//! - `kinds`: what runs a case, by the name of its kind.
+//! - `lines`: lines that are made, edited and asked.
+//! - `makers`: calls that make the line another one.
+//! - `questions`: queries of a line.
+//! - `row`: the arguments of a case, as a line has them between bars.
+//! - `run`: a text of cases, run line by line.
+//! - `runs`: columns of a line in a range that it has.
+//! - `screens`: screens of a terminal that has read some bytes.
+//! - `sequences`: control sequences and ESC pairs.
+//! - `sequences_of_changes`: lists of changes that know where they leave the cursor.
+//! - `sessions`: a terminal answers a viewer, and that one answers another.
+//! - `sheet`: what a call answered, as a row writes it: words in columns.
+//! - `steps`: changes that steps of a surface name.
+//! - `stored`: what a line keeps, as rows write it.
+//! - `streams`: streams that are read, and lists of actions that are joined, written and read again.
+//! - `surfaces`: surfaces that are changed and asked by steps.
+//! - `tally`: how many cases ran, by kind.
+//! - `terminals`: terminals after pieces and calls.
+//! - `updates`: updates and patches: of a terminal, which a viewer reads, and of an input that is run; and what is
+//!   sent for a change.
+//! - `values`: colours, widths and cells.
 #![tactic(auto)]
 
 mod actions;

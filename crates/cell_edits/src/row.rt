@@ -325,11 +325,18 @@ pub fn push_cell(cells: &mut Vec<Cell>, cell: Cell) -> Result<(), AllocError>
     Ok(())
 }
 
-/// The cell is set at each column from `start` on and before `end`, in turn.
+/// The cell is set at each column from `start` on and before `end`, in turn. Room for all of them is
+/// reserved first, so a range that memory can't hold is refused at once.
 pub fn fill(cells: &mut Vec<Cell>, start: usize, end: usize, cell: &Cell) -> Result<(), AllocError>
     ensures { OnOk result
         (row_of_cells cells.new.items ≡ filled (row_of_cells cells.old.items) start (end - start) cell.now) }
 {
+    let count = if start < end {
+        end.saturating_sub(cells.len())
+    } else {
+        0
+    };
+    cells.reserve(count)?;
     for at in start..end {
         set_cell(cells, at, cell.try_clone()?)?;
     }

@@ -5,6 +5,27 @@
 //! With the word `calls` it makes only values and then those calls that need no memory, and with `values` these values
 //! alone. The first run should make no request more than the second: it is to be run with every request refused after
 //! those.
+//!
+//! - `cells`: cells, attributes, links and colours.
+//! - `changes`: changes, and sequences of them that know where they leave the cursor.
+//! - `commands`: Operating system commands, read and written.
+//! - `copies`: copies of cells, attributes and changes: what was to become a copy and is refused stays as it was.
+//! - `edits`: edits of lines: a refused one leaves a lawful line with its number.
+//! - `lines`: makers and queries of lines.
+//! - `outcome`: what a check comes to.
+//! - `runs`: `run` and `show`: where the terminal is refused memory, what was written is a prefix of the whole.
+//! - `script`: whole scripts: each answer before a refusal is that of the run without one.
+//! - `sequences`: control sequences: after a refusal the actions of a list end.
+//! - `sink`: a writer that takes no memory.
+//! - `streams`: parsers, which have failed once they were refused memory, and lists of actions.
+//! - `surfaces`: a changing call that is refused memory leaves a surface that has failed, any other an unchanged one.
+//! - `tally`: which checks were wrong.
+//! - `terminals`: one whose bytes, look or size were refused memory has failed; one whose answer was is as after a
+//!   look.
+//! - `unrefused`: calls that take no memory, on values that are made before: after these every request may be
+//!   refused.
+//! - `unrefused_screens`: calls of lines, surfaces, terminals and watched readers that take no memory.
+//! - `unrefused_values`: calls of colours, attributes, widths, cells and control sequences that take no memory.
 #![tactic(auto)]
 
 mod cells;

@@ -11,8 +11,9 @@ use terminal::{ProgramWidth, SequenceNo, Terminal, TerminalError};
 const UPDATE: &[u8] =
     b"\x1b[?25l\x1b[0m\x1b]8;;\x1b\\\x1b[2J\x1b[1;1H\x1b]2;\x1b\\a\0\x1b[0m\x1b]8;id=1;u\x1b\\b \0\x1b[1;3H\x1b[?25h";
 
-const PATCH: &[u8] =
-    b"\x1b]2;\x1b\\\x1b[1;1H\x1b[0m\x1b]8;;\x1b\\a\0\x1b[0m\x1b]8;id=1;u\x1b\\b\0\x1b[0m\x1b[1m\x1b]8;id=1;u\x1b\\c\0\x1b[1;3H\x1b[0m\x1b[1m\x1b]8;id=1;u\x1b\\c\0\x1b[0m\x1b[1m\x1b]8;id=1;u\x1b\\\x1b[?25h";
+const PATCH: &[u8] = b"\
+\x1b]2;\x1b\\\x1b[1;1H\x1b[0m\x1b]8;;\x1b\\a\0\x1b[0m\x1b]8;id=1;u\x1b\\b\0\x1b[0m\x1b[1m\x1b]8;id=1;u\x1b\\c\0\
+\x1b[1;3H\x1b[0m\x1b[1m\x1b]8;id=1;u\x1b\\c\0\x1b[0m\x1b[1m\x1b]8;id=1;u\x1b\\\x1b[?25h";
 
 // The reply of the terminal to the first feed.
 const REPLY: &[u8] = b"\x1b[1;3R";

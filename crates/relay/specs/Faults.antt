@@ -1,8 +1,9 @@
--- The texts of faults.
-use Rattle.std.specs.Prelude.{ℕ, List, [], ◌∷◌, ◌++◌, codes}
+-- The texts of faults, and what it is to report one.
+use Rattle.std.specs.Prelude.{◌≡◌, ℕ, List, [], ◌∷◌, ◌++◌, Option, false, IsTrue, codes}
+use Rattle.std.specs.Io.KnownBytes.{Appends}
+use Rattle.terminal.specs.Watched.{Watched}
 use Rattle.terminal.specs.declared.error.RunError.{RunError}
 use Rattle.terminal.specs.declared.error.RunError.TheVariants as run
-use Rattle.terminal_steps.specs.declared.error.TerminalError.{TerminalError}
 use Rattle.terminal_steps.specs.declared.error.TerminalError.TheVariants as terminal
 
 -- why a run ended early
@@ -17,3 +18,8 @@ fault_text (run.Terminal terminal.Failed) = codes "out of memory"
 -- the line on a fault
 abbrev pub fault_line : List ℕ → List ℕ
 fault_line fault = codes "relay: " ++ fault ++ 10 ∷ []
+
+-- a text was written and flushed, or the writer has failed
+abbrev pub IsReported : {T : Type 0} → (T → Option (List ℕ)) → Watched T → Watched T → List ℕ → Type 0
+IsReported contents old new text =
+    new.has_failed ≡ false → Appends (contents old.inner) (contents new.inner) text × IsTrue new.is_flushed

@@ -1,15 +1,24 @@
 -- What the program writes.
-use Rattle.std.specs.Prelude.{ℕ, Bool, List, if◌then◌else◌}
+use Rattle.std.specs.Prelude.{ℕ, ◌≤◌, ◌^◌, Bool, List, [], ◌∷◌, if◌then◌else◌}
 use Rattle.clap.specs.Words.{Text}
 use Rattle.cell_base.specs.Cluster.{program_width}
+use Rattle.terminal.specs.Sent.{number_after}
 use Rattle.terminal.specs.Shown.{rows_shown}
-use Rattle.terminal_viewers.specs.Updates.{updates}
+use Rattle.terminal_table.specs.History.{Piece, Look}
+use Rattle.terminal_table.specs.Logged.{log_of}
+use Rattle.terminal_viewers.specs.Updates.{new_standing, updates}
 use Rattle.relay.specs.CommandLine.{width_in, height_in, every_in, show_in}
 
 -- of an input the rows, each with a line feed after it, where these are to be shown, and else the updates
 abbrev pub written : Bool → ℕ → ℕ → ℕ → List ℕ → List ℕ
 written is_show width height every input =
     if is_show then rows_shown program_width width height input else updates program_width width height every input
+
+-- for its changes, and those of the looks, there are not enough numbers
+abbrev pub NumbersRunOut : Bool → ℕ → ℕ → ℕ → List ℕ → Type 0
+NumbersRunOut is_show width height every input =
+    2 ^ 64 ≤ (if is_show then (log_of program_width width height (Piece input ∷ Look ∷ [])).log.number
+    else number_after program_width every (new_standing width height) input)
 
 -- as the words ask for it
 abbrev pub written_in : List Text → List ℕ → List ℕ

@@ -4,6 +4,7 @@ use std::alloc::Global;
 use std::io;
 use std::io::{ErrorKind, Write};
 use std::process::Abort;
+use terminal::Watched;
 
 /// Takes all bytes, and fails after `flushes_left` flushes.
 #[derive(Drop)]
@@ -126,8 +127,8 @@ For more information, try '--help'.
 #[test]
 fn words_that_are_not_text(rt: HostRuntime) {
     for flushes in [0, 1] {
-        let mut faults = writer_of(rt.alloc(), flushes);
+        let mut faults = Watched::new(writer_of(rt.alloc(), flushes));
         assert_eq!(rt; refuse_ill_formed(&mut faults), 2);
-        assert!(rt; faults.text.as_slice() == ILL_FORMED.as_bytes());
+        assert!(rt; faults.into_inner().text.as_slice() == ILL_FORMED.as_bytes());
     }
 }

@@ -1,4 +1,11 @@
 //! A filter that keeps the screen of an application from the bytes on its standard input.
+//!
+//! - `flushes`: the program on writers of which a flush fails, and on words that are not UTF-8.
+//! - `laws`: laws of the definitions: what some command lines give.
+//! - `lent`: a writer that is lent, and of which contracts can say that it is still the one that was lent.
+//! - `options`: what the words of a command line give.
+//! - `service`: the program on its words and streams.
+//! - `tests`: the program on readers and writers that give and take a few bytes at a time, and fail.
 #![tactic(auto)]
 
 #[cfg(test)]
@@ -11,10 +18,11 @@ mod service;
 mod tests;
 
 pub use service::serve;
-use service::{refuse_ill_formed, tell};
+use service::{refuse_ill_formed, report};
 use std::env;
 use std::io::ErrorKind;
 use std::process::ExitCode;
+use terminal::Watched;
 
 fn main(rt: HostRuntime) -> ExitCode {
     let alloc = rt.alloc();
@@ -24,12 +32,12 @@ fn main(rt: HostRuntime) -> ExitCode {
     let words: Vec<String> = match env::args(&rt) {
         Ok(words) => match words.collect(alloc) {
             Ok(words) => words,
-            Err(_) => return ExitCode::from(tell(&mut faults, "out of memory")),
+            Err(_) => return ExitCode::from(report(&mut Watched::new(faults), "out of memory")),
         },
         Err(error) if error.kind() == ErrorKind::OutOfMemory => {
-            return ExitCode::from(tell(&mut faults, "out of memory"));
+            return ExitCode::from(report(&mut Watched::new(faults), "out of memory"));
         }
-        Err(_) => return ExitCode::from(refuse_ill_formed(&mut faults)),
+        Err(_) => return ExitCode::from(refuse_ill_formed(&mut Watched::new(faults))),
     };
     ExitCode::from(serve(
         alloc,

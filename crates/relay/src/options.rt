@@ -1,5 +1,5 @@
 //! What the words of a command line give.
-ghost use Rattle.std.specs.Prelude.{◌≡◌, ◌<◌, ◌≤◌, false, IfOk, map};
+ghost use Rattle.std.specs.Prelude.{◌≡◌, ◌<◌, ◌≤◌, false, Some, IfOk, map};
 ghost use Rattle.clap.specs.Words.{FailsBy, app_of, found_of, one_text, rule_of};
 ghost use Rattle.relay.specs.CommandLine.{chosen, command_line, named, number_rule, flag_rule, faults_in, number_or};
 ghost use Rattle.relay.specs.CommandLine.{width_in, height_in, every_in, is_true, show_in};
@@ -35,6 +35,7 @@ fn number_option<'a>(
     help: &'a str,
 ) -> Arg<'a>
     ensures rule { rule_of result ≡ number_rule name.entry.now default.entry.now most }
+    ensures help { result.help ≡ Some help.entry }
     ensures local { result.global ≡ false }
 {
     let numbers = value_parser!(u32).range(1..=i64::from(most));
@@ -48,6 +49,7 @@ fn number_option<'a>(
 
 fn flag_option<'a>(alloc: Global, name: &'a str, help: &'a str) -> Arg<'a>
     ensures rule { rule_of result ≡ flag_rule name.entry.now }
+    ensures help { result.help ≡ Some help.entry }
     ensures local { result.global ≡ false }
 {
     Arg::new(alloc, name)

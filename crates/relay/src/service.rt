@@ -1,11 +1,12 @@
 //! The program on its words and streams.
-ghost use Rattle.std.specs.Prelude.{false, ◌≡◌, ◌≢◌, ◌⊎◌, ◌↔◌, ◌≤◌, ◌^◌, [], map, IfSome, IsErrOf, IsTrue, OnOk, OnErr};
+ghost use Rattle.std.specs.Prelude.{false, ◌≡◌, ◌≢◌, ◌⊎◌, ◌↔◌, ◌≤◌, ◌^◌, [], codes, map};
+ghost use Rattle.std.specs.Prelude.{IfSome, IsErrOf, IsTrue, OnOk, OnErr};
 ghost use Rattle.std.specs.Io.KnownBytes.{Appends, Keeps};
 ghost use Rattle.terminal.specs.Shown.{AppendsPrefix};
 ghost use Rattle.clap.specs.Words.{IsAmong, kind_of};
 ghost use Rattle.relay.specs.CommandLine.{HasMistake, faults_in};
-ghost use Rattle.relay.specs.Faults.{fault_line, fault_text};
-ghost use Rattle.relay.specs.Output.{written, written_in};
+ghost use Rattle.relay.specs.Faults.{IsReported, fault_line, fault_text};
+ghost use Rattle.relay.specs.Output.{NumbersRunOut, written, written_in};
 
 use crate::lent::Lent;
 use crate::options;
@@ -14,7 +15,6 @@ use clap::Error;
 use clap::error::ErrorKind;
 use std::alloc::Global;
 use std::convert::AsStr;
-use std::io;
 use std::io::{Read, Write};
 use terminal::{ProgramWidth, RunError, TerminalError, Watched, run, show};
 
@@ -23,20 +23,15 @@ const FAULT: u8 = 1;
 const BAD_WORDS: u8 = 2;
 
 /// Writes a line on what went wrong. That it can't be written is dropped.
-pub fn tell<F: Write>(faults: &mut F, fault: &str) -> u8
-    ensures { result ≡ FAULT }
+pub fn report<F: Write>(faults: &mut Watched<F>, fault: &str) -> u8
+    ensures status { result ≡ FAULT }
+    ensures reported { IsReported (λ f. F.contents f) faults.old faults.new (fault_line fault.now) }
 {
-    let _ = write_line(faults, fault);
+    let _ = faults.write_all(b"relay: ").is_ok()
+        && faults.write_all(fault.as_bytes()).is_ok()
+        && faults.write_all(b"\n").is_ok()
+        && faults.flush().is_ok();
     FAULT
-}
-
-fn write_line<F: Write>(faults: &mut F, fault: &str) -> io::Result<()>
-    ensures { OnOk result (Appends (F.contents faults.old) (F.contents faults.new) (fault_line fault.now)) }
-{
-    faults.write_all(b"relay: ")?;
-    faults.write_all(fault.as_bytes())?;
-    faults.write_all(b"\n")?;
-    faults.flush()
 }
 
 const ILL_FORMED: &str = "\
@@ -48,15 +43,17 @@ For more information, try '--help'.
 ";
 
 /// Says that a word of the command line is not UTF-8. That it can't be written is dropped.
-pub fn refuse_ill_formed<F: Write>(faults: &mut F) -> u8
-    ensures { result ≡ BAD_WORDS }
+pub fn refuse_ill_formed<F: Write>(faults: &mut Watched<F>) -> u8
+    ensures status { result ≡ BAD_WORDS }
+    ensures reported { IsReported (λ f. F.contents f) faults.old faults.new ILL_FORMED.now }
 {
     refuse(faults, ILL_FORMED)
 }
 
 // Writes why the words are no command line. That it can't be written is dropped.
-fn refuse<F: Write>(faults: &mut F, text: &str) -> u8
-    ensures { result ≡ BAD_WORDS }
+fn refuse<F: Write>(faults: &mut Watched<F>, text: &str) -> u8
+    ensures status { result ≡ BAD_WORDS }
+    ensures reported { IsReported (λ f. F.contents f) faults.old faults.new text.now }
 {
     let _ = faults.write_all(text.as_bytes());
     let _ = faults.flush();
@@ -77,29 +74,40 @@ fn fault_of(error: RunError) -> &'static str
 }
 
 // Help and the version go to the writer, and what is wrong with the words to faults.
-fn explain<T: Write, F: Write>(alloc: Global, error: &Error, writer: &mut T, faults: &mut F) -> u8
+fn explain<T: Write, F: Write>(
+    alloc: Global,
+    error: &Error,
+    writer: &mut Watched<T>,
+    faults: &mut Watched<F>,
+) -> u8
+    requires { writer.old.has_failed ≡ false }
     ensures status { result ≤ 2 }
     ensures memory { kind_of error.now ≡ ErrorKind.OutOfMemory → result ≡ FAULT }
     ensures asked { result ≡ 0
         → (kind_of error.now ≡ ErrorKind.DisplayHelp) ⊎ (kind_of error.now ≡ ErrorKind.DisplayVersion) }
     ensures shown { (kind_of error.now ≡ ErrorKind.DisplayHelp) ⊎ (kind_of error.now ≡ ErrorKind.DisplayVersion)
         → result ≢ BAD_WORDS }
-    ensures quiet { result ≡ 0 → Keeps (F.contents faults.old) (F.contents faults.new) }
+    ensures flushed { result ≡ 0 → IsTrue writer.new.is_flushed }
+    ensures quiet { result ≡ 0 → Keeps (F.contents faults.old.inner) (F.contents faults.new.inner) }
     ensures nothing { kind_of error.now ≡ ErrorKind.OutOfMemory
-        → Keeps (T.contents writer.old) (T.contents writer.new) }
-    ensures refused { result ≡ BAD_WORDS → Keeps (T.contents writer.old) (T.contents writer.new) }
+        → Keeps (T.contents writer.old.inner) (T.contents writer.new.inner) }
+    ensures refused { result ≡ BAD_WORDS → Keeps (T.contents writer.old.inner) (T.contents writer.new.inner) }
+    ensures unwritten { IsTrue writer.new.has_failed → (result ≡ FAULT)
+        × IsReported (λ f. F.contents f) faults.old faults.new (fault_line (codes "cannot write")) }
+    ensures unrendered { result ≡ FAULT → writer.new.has_failed ≡ false
+        → IsReported (λ f. F.contents f) faults.old faults.new (fault_line (codes "out of memory")) }
 {
     if error.kind() == ErrorKind::OutOfMemory {
-        return tell(faults, "out of memory");
+        return report(faults, "out of memory");
     }
     let Ok(text) = error.to_string(alloc) else {
-        return tell(faults, "out of memory");
+        return report(faults, "out of memory");
     };
     if error.use_stderr() {
         return refuse(faults, text.as_str());
     }
     if writer.write_all(text.as_bytes()).is_err() || writer.flush().is_err() {
-        return tell(faults, "cannot write");
+        return report(faults, "cannot write");
     }
     0
 }
@@ -125,6 +133,8 @@ fn answer<R: Read, T: Write>(
     ensures read { IsErrOf result RunError.Read ↔ IsTrue reader.new.has_failed }
     ensures write { IsErrOf result RunError.Write ↔ IsTrue writer.new.has_failed }
     ensures too_long { IsErrOf result RunError.TooLong → reader.new.reads ≡ 2 ^ 48 }
+    ensures number { IsErrOf result (RunError.Terminal TerminalError.Number) → IfSome (R.remaining reader.old.inner)
+        (NumbersRunOut options.is_show options.width options.height options.every) }
     // After a fault of the reader or the writer it is not called again.
     ensures ends_reads { reader.new.has_gone_on ≡ reader.old.has_gone_on }
     ensures ends_writes { writer.new.has_gone_on ≡ writer.old.has_gone_on }
@@ -142,28 +152,45 @@ fn answer<R: Read, T: Write>(
     }
 }
 
-// Writes what the options ask for.
-fn relay<R: Read, T: Write>(
+// Does what the words ask for, and reports a fault.
+#[tactic(auto, using(crate::proofs::OutputLemmas::none_of))]
+fn relay<S: AsStr, R: Read, T: Write, F: Write>(
     alloc: Global,
-    options: Options,
-    reader: &mut R,
-    writer: &mut T,
-) -> Result<(), RunError>
-    ensures ok { OnOk result
-        (IfSome (R.remaining reader.old)
-        (λ input. Appends (T.contents writer.old) (T.contents writer.new)
-        (written options.is_show options.width options.height options.every input))) }
-    ensures err { OnErr result
-        (IfSome (R.remaining reader.old)
-        (λ input. AppendsPrefix (T.contents writer.old) (T.contents writer.new)
-        (written options.is_show options.width options.height options.every input))) }
+    words: &[S],
+    reader: &mut Watched<R>,
+    writer: &mut Watched<T>,
+    faults: &mut Watched<F>,
+) -> u8
+    requires reader { reader.old.has_failed ≡ false }
+    requires unread { reader.old.reads ≡ 0 }
+    requires writer { writer.old.has_failed ≡ false }
+    ensures status { result ≤ 2 }
+    ensures runs { faults_in (map S.text words.now) ≡ [] → result ≤ 1 }
+    ensures asked { result ≡ 0 → faults_in (map S.text words.now) ≢ []
+        → IsAmong ErrorKind.DisplayHelp (faults_in (map S.text words.now))
+        ⊎ IsAmong ErrorKind.DisplayVersion (faults_in (map S.text words.now)) }
+    ensures quiet { result ≡ 0 → Keeps (F.contents faults.old.inner) (F.contents faults.new.inner) }
+    ensures mistaken { result ≡ BAD_WORDS → HasMistake (faults_in (map S.text words.now)) }
+    ensures refused { result ≡ BAD_WORDS → Keeps (T.contents writer.old.inner) (T.contents writer.new.inner) }
+    ensures shows { faults_in (map S.text words.now) ≡ [] → result ≡ 0
+        → IfSome (R.remaining reader.old.inner) (λ input. Appends (T.contents writer.old.inner)
+        (T.contents writer.new.inner) (written_in (map S.text words.now) input)) }
+    ensures part { faults_in (map S.text words.now) ≡ [] → result ≢ 0
+        → IfSome (R.remaining reader.old.inner) (λ input. AppendsPrefix (T.contents writer.old.inner)
+        (T.contents writer.new.inner) (written_in (map S.text words.now) input)) }
+    ensures read { IsTrue reader.new.has_failed → (result ≡ FAULT)
+        × IsReported (λ f. F.contents f) faults.old faults.new (fault_line (codes "cannot read")) }
+    ensures write { IsTrue writer.new.has_failed → (result ≡ FAULT)
+        × IsReported (λ f. F.contents f) faults.old faults.new (fault_line (codes "cannot write")) }
 {
-    let mut reader = Watched::new(reader);
-    let mut writer = Watched::new(Lent { inner: writer });
-    let result = answer(alloc, options, &mut reader, &mut writer);
-    let Lent { inner } = writer.into_inner();
-    let _ = &*inner;
-    result
+    let options = match options::read(alloc, words) {
+        Ok(options) => options,
+        Err(error) => return explain(alloc, &error, writer, faults),
+    };
+    match answer(alloc, options, reader, writer) {
+        Ok(()) => 0,
+        Err(error) => report(faults, fault_of(error)),
+    }
 }
 
 /// The program on its words, of which the first is its name, and on its streams. What the words ask
@@ -173,7 +200,6 @@ fn relay<R: Read, T: Write>(
 /// It answers the status: 0; or 1 with one line on `faults`, where reading, writing, memory or numbers
 /// failed or the input was too long, and then the first bytes may have been written; or 2 with a text on
 /// `faults` for a bad command line, and then none were.
-#[tactic(auto, using(crate::proofs::OutputLemmas::none_of))]
 pub fn serve<S: AsStr, R: Read, T: Write, F: Write>(
     alloc: Global,
     words: &[S],
@@ -200,12 +226,13 @@ pub fn serve<S: AsStr, R: Read, T: Write, F: Write>(
     ensures part { faults_in (map S.text words.now) ≡ [] → result ≢ 0 → IfSome (R.remaining reader.old) (λ input.
         AppendsPrefix (T.contents writer.old) (T.contents writer.new) (written_in (map S.text words.now) input)) }
 {
-    let options = match options::read(alloc, words) {
-        Ok(options) => options,
-        Err(error) => return explain(alloc, &error, writer, faults),
-    };
-    match relay(alloc, options, reader, writer) {
-        Ok(()) => 0,
-        Err(error) => tell(faults, fault_of(error)),
-    }
+    let mut reader = Watched::new(reader);
+    let mut writer = Watched::new(Lent { inner: writer });
+    let mut faults = Watched::new(Lent { inner: faults });
+    let status = relay(alloc, words, &mut reader, &mut writer, &mut faults);
+    let Lent { inner } = writer.into_inner();
+    let _ = &*inner;
+    let Lent { inner } = faults.into_inner();
+    let _ = &*inner;
+    status
 }

@@ -163,7 +163,7 @@ fn takes_each_option_of_a_command_line(rt: HostRuntime) {
 }
 
 #[test]
-fn tells_of_a_read_that_fails(rt: HostRuntime) {
+fn reports_a_read_that_fails(rt: HostRuntime) {
     for reads in 0..4 {
         let expected = (1, NOTHING, b"relay: cannot read\n".as_slice());
         assert_run(&rt, &SHOW, input_in(INPUT, 5, reads), (100, 100), expected);
@@ -183,7 +183,7 @@ fn assert_cut<R: Abort + AllocGlobal>(rt: &R, writes: (usize, usize), text: &[u8
 }
 
 #[test]
-fn tells_of_a_write_that_fails(rt: HostRuntime) {
+fn reports_a_write_that_fails(rt: HostRuntime) {
     assert_cut(&rt, (3, 0), NOTHING);
     assert_cut(&rt, (3, 1), b"foo");
     assert_cut(&rt, (3, 4), b"foob\naarb\naz");

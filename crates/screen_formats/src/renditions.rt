@@ -3,7 +3,8 @@ ghost use Rattle.std.specs.Prelude.{◌≡◌, ◌++◌, IfOk};
 ghost use Rattle.std.specs.String.{string_bytes};
 ghost use Rattle.screen_formats.specs.Colors.{hex_color};
 ghost use Rattle.screen_formats.specs.Renditions.{align_rendition, blink_rendition, color_style, intensity_rendition};
-ghost use Rattle.screen_formats.specs.Renditions.{lines_declared, lines_style, rendition_style, rendition_words, text_if};
+ghost use Rattle.screen_formats.specs.Renditions.{lines_declared, lines_style, rendition_style, rendition_words};
+ghost use Rattle.screen_formats.specs.Renditions.{text_if};
 ghost use Rattle.screen_formats.specs.Renditions.{underline_color_style, underline_rendition};
 
 use crate::colors::{Rgb, color_of, ink};

@@ -1,4 +1,12 @@
 //! Writes the screen that an application's output or a recording leads to.
+//!
+//! - `error`: why no more screens are written.
+//! - `format`: a screen in one of five forms.
+//! - `laws`: laws of the definitions, as the contracts of functions that do nothing.
+//! - `options`: what the words of a command line give.
+//! - `play`: a recording that is played to a terminal.
+//! - `service`: the program on an input, and on its streams.
+//! - `shots`: the screens of a recording.
 #![tactic(auto)]
 
 mod error;

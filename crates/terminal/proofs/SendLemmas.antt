@@ -2,13 +2,13 @@
 use Rattle.std.proofs.Common.{◌≡◌, ℕ, ◌+◌, ◌<◌, ◌≤◌, ◌^◌, false, List, [], ◌∷◌, length, refl, sym, ap, subst, ◌∙◌, arith, Option, Some, None}
 use Rattle.std.specs.Prelude.{IfSome}
 use Rattle.std.specs.Io.KnownBytes.{Appends, Consumes, IsAtEnd, Keeps}
-use Rattle.terminal.specs.Sent.{IsAt, IsCounted, Lightens, Sent, Sends, SendsSome, SendsAll, SendsFirst, SendsPart, LooksNeedNumber, due_from, looked, number_after, update_at, updates_from}
+use Rattle.terminal.specs.Sent.{IsAt, IsCounted, Lightens, Sent, Sends, SendsSome, SendsAll, SendsChunks, SendsChunksOf, SendsFirst, SendsPart, LooksNeedNumber, due_from, looked, number_after, update_at, updates_from}
 use Rattle.terminal.specs.Shown.{AppendsPrefix}
 use Rattle.terminal.specs.Headline.{GoesBy}
 use Rattle.terminal.specs.Refusals.{NeedsNumber}
 use Rattle.terminal.specs.Terminal.{Terminal}
 use Rattle.terminal.proofs.AppendLemmas.{nothing_appended, keeps_same}
-use Rattle.terminal.proofs.UpdateLemmas.{IsSending, sending_first, sending_lighter, sending_more, sending_next, sending_all, sending_part, sending_some, sending_last, past_feed, past_look, past_end}
+use Rattle.terminal.proofs.UpdateLemmas.{IsSending, sending_chunks, sending_first, sending_lighter, sending_more, sending_next, sending_all, sending_part, sending_some, sending_last, past_feed, past_look, past_end}
 use Rattle.terminal_table.specs.History.{Piece, Look}
 use Rattle.terminal_viewers.specs.Updates.{Standing, new_standing}
 
@@ -59,6 +59,13 @@ module _ {W : Type 0} (width_of : W → List ℕ → ℕ) where
         (λ x there. subst (λ (y : W). Sent (width_of y) x number later u now new) same (sends x there))
 
     -- ---- where it ends early
+
+    pub on_chunks : (input rest next : Option (List ℕ)) → SendsOn width_of every before input rest old now t number left → Keeps rest next → SendsChunksOf width_of every before input next old now
+    on_chunks None rest next s k = tt
+    on_chunks (Some input) None next s k = absurd s
+    on_chunks (Some input) (Some rest) None s k = absurd k
+    on_chunks (Some input) (Some rest) (Some next) s k = λ start at counted.
+        sending_chunks width_of before.surface.grid.widths every start input rest old now t number left (s start at counted) (Some next) (ap Some k)
 
     pub on_part : (input rest next : Option (List ℕ)) (bytes : List ℕ) → SendsOn width_of every before input rest old now t number left → Consumes rest next bytes → SendsFirst width_of every before input next old now
     on_part None rest next bytes s c = tt
@@ -129,6 +136,11 @@ module _ {W : Type 0} (width_of : W → List ℕ → ℕ) where
       → IfSome input (λ x. Appends old new (updates_from (width_of w) every (new_standing width height) x))
   new_all w every t width height None old new at e sent = tt
   new_all w every t width height (Some x) old new at e sent = subst (λ (y : W). Appends old new (updates_from (width_of y) every (new_standing width height) x)) e (sent (new_standing width height) at (omega arith))
+
+  pub new_chunks : (w : W) (every : ℕ) (t : Terminal W) (width height : ℕ) (input left old new : Option (List ℕ)) → IsAt t (new_standing width height) → t.surface.grid.widths ≡ w → SendsChunksOf width_of every t input left old new
+      → IfSome input (λ x. SendsChunks (width_of w) every (new_standing width height) x left old new)
+  new_chunks w every t width height None left old new at e sent = tt
+  new_chunks w every t width height (Some x) left old new at e sent = subst (λ (y : W). SendsChunks (width_of y) every (new_standing width height) x left old new) e (sent (new_standing width height) at (omega arith))
 
   pub new_part : (w : W) (every : ℕ) (t : Terminal W) (width height : ℕ) (input left old new : Option (List ℕ)) → IsAt t (new_standing width height) → t.surface.grid.widths ≡ w → SendsFirst width_of every t input left old new
       → IfSome input (λ x. SendsPart (width_of w) every (new_standing width height) x left old new)

@@ -7,7 +7,7 @@ use Rattle.std.specs.Io.KnownBytes.{Appends}
 use Rattle.cell_surface.specs.Surface.{number_of}
 use Rattle.escape_framing.proofs.Existence.Utf8Lemmas.{order}
 use Rattle.terminal.specs.Fed.{AnswersAt}
-use Rattle.terminal.specs.Sent.{IsAt, IsCounted, Lightens, Sent, SendsPart, due_from, looked, lightened, update_at, updates_from, number_after}
+use Rattle.terminal.specs.Sent.{IsAt, IsCounted, Lightens, Sent, SendsChunks, SendsPart, due_from, looked, lightened, update_at, updates_from, number_after}
 use Rattle.terminal.specs.Shown.{AppendsPrefix}
 use Rattle.terminal.specs.Headline.{GoesBy}
 use Rattle.terminal.specs.Refusals.{NeedsNumber}
@@ -120,6 +120,21 @@ module _ {W : Type 0} (width_of : W → List ℕ → ℕ) (w : W) where
     pub asked : (number ≡ 0) ⊎ (from ≡ number)
     pub seen : from ≤ (standing_after f last (Piece begun ∷ [])).log.log.number
     pub answers : AnswersAt from t (standing_after f last (Piece begun ∷ []))
+
+  -- the updates of the pieces that are done are written, and no more
+  pub sending_chunks : (every : ℕ) (start : Standing) (input rest : List ℕ) (old now : Option (List ℕ)) (t : Terminal W) (number left : ℕ) → IsSending every start input rest old now t number left
+      → (remaining : Option (List ℕ)) → remaining ≡ Some rest → SendsChunks f every start input remaining old now
+  sending_chunks every start input rest old now t number left s remaining e = record {
+    read = s.read;
+    rest = rest;
+    whole = s.whole;
+    remaining = e;
+    chunks = s.done;
+    begun = s.begun;
+    cut = ap (λ bytes. in_pieces every [] bytes) (sym (append-nil s.read)) ∙ s.pieces [];
+    appends = subst (λ bytes. Appends old now bytes)
+        (sym (append-nil s.written) ∙ sym (s.leads []) ∙ ap (λ pieces. updates_after f start 0 pieces) (append-nil s.done)) s.appends;
+  }
 
   pub sending_first : (every : ℕ) (start : Standing) (input : List ℕ) (old : Option (List ℕ)) (t : Terminal W) → t.surface.grid.widths ≡ w → t.is_failed ≡ false → IsAt t start → IsCounted start → Appends old old []
       → IsSending every start input input old old t 0 every

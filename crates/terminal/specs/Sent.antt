@@ -78,7 +78,7 @@ SendsAll width_of every before (Some input) old new =
     (start : Standing) → IsAt before start → IsCounted start
     → Appends old new (updates_from (width_of before.surface.grid.widths) every start input)
 
--- Of an input some bytes were read, and others are left; what was written is the first bytes of the updates of what was
+-- Of an input some bytes were read, and the rest is left; what was written is the first bytes of the updates of what was
 -- read, and of the whole.
 pub record SendsPart (width_of : List ℕ → ℕ) (every : ℕ) (start : Standing) (input : List ℕ)
     (left old new : Option (List ℕ)) : Type 0 where
@@ -95,6 +95,26 @@ SendsFirst width_of every before None left old new = Unit {0}
 SendsFirst width_of every before (Some input) left old new =
     (start : Standing) → IsAt before start → IsCounted start
     → SendsPart (width_of before.surface.grid.widths) every start input left old new
+
+-- Of an input some bytes were read, and the rest is left; written are the updates of the whole chunks that were read, and
+-- nothing of the chunk that had begun.
+pub record SendsChunks (width_of : List ℕ → ℕ) (every : ℕ) (start : Standing) (input : List ℕ)
+    (left old new : Option (List ℕ)) : Type 0 where
+  pub read : List ℕ
+  pub rest : List ℕ
+  pub whole : input ≡ read ++ rest
+  pub remaining : left ≡ Some rest
+  pub chunks : List (List ℕ)
+  pub begun : List ℕ
+  pub cut : in_pieces every [] read ≡ chunks ++ (begun ∷ [])
+  pub appends : Appends old new (updates_after width_of start 0 chunks)
+
+abbrev pub SendsChunksOf : {W : Type 0} → (W → List ℕ → ℕ) → ℕ → Terminal W → Option (List ℕ) → Option (List ℕ)
+    → Option (List ℕ) → Option (List ℕ) → Type 0
+SendsChunksOf width_of every before None left old new = Unit {0}
+SendsChunksOf width_of every before (Some input) left old new =
+    (start : Standing) → IsAt before start → IsCounted start
+    → SendsChunks (width_of before.surface.grid.widths) every start input left old new
 
 -- the number after an input with a look after each chunk
 abbrev pub number_after : (List ℕ → ℕ) → ℕ → Standing → List ℕ → ℕ

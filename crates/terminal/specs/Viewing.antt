@@ -1,4 +1,4 @@
--- Terminals that show what others showed.
+-- Terminals that show what another one showed.
 use Rattle.std.specs.Prelude.{◌≡◌, ℕ, false, List, length}
 use Rattle.cell_base.specs.Screen.{Screen}
 use Rattle.screen_change.specs.ChangeValue.{ChangeValue}

@@ -1,7 +1,7 @@
 //! Runs a reader's bytes through a terminal.
 ghost use Rattle.std.specs.Prelude.{◌≡◌, ◌↔◌, ℕ, ◌+◌, ◌<◌, ◌≤◌, ◌^◌, false, List, [], ◌∷◌, IsTrue, IsErr, IfOk, IfSome};
 ghost use Rattle.std.specs.Prelude.{OnOk, OnErr, IsErrOf};
-ghost use Rattle.std.specs.Io.KnownBytes.{Appends, Keeps};
+ghost use Rattle.std.specs.Io.KnownBytes.{Appends, IsAtEnd, Keeps};
 ghost use Rattle.std.specs.String.{string_bytes};
 ghost use Rattle.cell_surface.specs.Surface.{shown_by};
 ghost use Rattle.terminal.specs.Fed.{Feeds, FeedingNeedsNumber};
@@ -20,29 +20,11 @@ use std::alloc::Global;
 use std::io::{Read, Write};
 use terminal_steps::TerminalError;
 
-// Writes the bytes, of which each write may take a part.
-fn write_bytes<T: Write>(writer: &mut Watched<T>, bytes: &[u8]) -> Result<(), RunError>
-    requires { writer.old.has_failed ≡ false }
-    ensures ok { OnOk result (Appends (T.contents writer.old.inner) (T.contents writer.new.inner) bytes.now) }
-    ensures err { OnErr result (AppendsPrefix (T.contents writer.old.inner) (T.contents writer.new.inner) bytes.now) }
-    ensures fault { IsErrOf result RunError.Write ↔ IsTrue writer.new.has_failed }
-    ensures only { IsErr result → IsErrOf result RunError.Write }
-    ensures ends { writer.new.has_gone_on ≡ writer.old.has_gone_on }
-    ensures flushes { writer.new.flushes ≡ writer.old.flushes }
-{
-    let mut written = 0;
-    while written < bytes.len() {
-        match writer.write(&bytes[written..]) {
-            Ok(0) => return Err(RunError::Write),
-            Ok(count) => written += count,
-            Err(_) => return Err(RunError::Write),
-        }
-    }
-    Ok(())
-}
-
 // Writes the bytes, and flushes them.
-pub(crate) fn write_all<T: Write>(writer: &mut Watched<T>, bytes: &[u8]) -> Result<(), RunError>
+pub(crate) fn write_and_flush<T: Write>(
+    writer: &mut Watched<T>,
+    bytes: &[u8],
+) -> Result<(), RunError>
     requires { writer.old.has_failed ≡ false }
     ensures ok { OnOk result (Appends (T.contents writer.old.inner) (T.contents writer.new.inner) bytes.now) }
     ensures err { OnErr result (AppendsPrefix (T.contents writer.old.inner) (T.contents writer.new.inner) bytes.now) }
@@ -52,7 +34,7 @@ pub(crate) fn write_all<T: Write>(writer: &mut Watched<T>, bytes: &[u8]) -> Resu
     ensures flushes { OnOk result (writer.new.flushes ≡ counted writer.old.flushes) }
     ensures flushed { OnOk result (IsTrue writer.new.is_flushed) }
 {
-    write_bytes(writer, bytes)?;
+    writer.write_all(bytes)?;
     match writer.flush() {
         Ok(()) => Ok(()),
         Err(_) => Err(RunError::Write),
@@ -81,6 +63,7 @@ fn feed_all<R: Read, W: Widths + Drop>(
     requires sound { terminal.old.is_failed ≡ false }
     ensures ok { OnOk result (Feeds (λ w. W.width_of w) (R.remaining reader.old.inner) terminal.old terminal.new) }
     ensures sound { OnOk result (terminal.new.is_failed ≡ false) }
+    ensures end { OnOk result (IsAtEnd (R.remaining reader.new.inner)) }
     ensures read { IsErrOf result RunError.Read ↔ IsTrue reader.new.has_failed }
     ensures ends { reader.new.has_gone_on ≡ reader.old.has_gone_on }
     ensures too_long { IsErrOf result RunError.TooLong → reader.new.reads ≡ 2 ^ 48 }
@@ -122,6 +105,7 @@ fn read_all<R: Read, W: Widths + Drop>(
         (λ t. IfSome (R.remaining reader.old.inner)
         (λ input. (shown_by t.surface).screen
         ≡ (meaning (W.width_of widths) width height (Piece input ∷ Look ∷ [])).state.screen)) }
+    ensures end { OnOk result (IsAtEnd (R.remaining reader.new.inner)) }
     ensures read { IsErrOf result RunError.Read ↔ IsTrue reader.new.has_failed }
     ensures ends { reader.new.has_gone_on ≡ reader.old.has_gone_on }
     ensures too_long { IsErrOf result RunError.TooLong → reader.new.reads ≡ 2 ^ 48 }
@@ -153,6 +137,7 @@ fn rows_of<R: Read, W: Widths + Drop>(
     ensures ok { IfOk result
         (λ text. IfSome (R.remaining reader.old.inner)
         (λ input. string_bytes text ≡ rows_shown (W.width_of widths) width height input)) }
+    ensures end { OnOk result (IsAtEnd (R.remaining reader.new.inner)) }
     ensures read { IsErrOf result RunError.Read ↔ IsTrue reader.new.has_failed }
     ensures ends { reader.new.has_gone_on ≡ reader.old.has_gone_on }
     ensures too_long { IsErrOf result RunError.TooLong → reader.new.reads ≡ 2 ^ 48 }
@@ -200,6 +185,8 @@ pub fn show<R: Read, T: Write, W: Widths + Drop>(
     ensures write { IsErrOf result RunError.Write ↔ IsTrue writer.new.has_failed }
     ensures too_long { IsErrOf result RunError.TooLong → reader.new.reads ≡ 2 ^ 48 }
     // Nothing is written before the whole input was read.
+    ensures end { OnOk result (IsAtEnd (R.remaining reader.new.inner)) }
+    ensures end_first { IsErrOf result RunError.Write → IsAtEnd (R.remaining reader.new.inner) }
     ensures remaining { IsErr result → (IsErrOf result RunError.Write → ⊥)
         → Keeps (T.contents writer.old.inner) (T.contents writer.new.inner) }
     // It flushes once, after the last write.
@@ -215,5 +202,5 @@ pub fn show<R: Read, T: Write, W: Widths + Drop>(
         (λ input. 2 ^ 64 ≤ (log_of (W.width_of widths) width height (Piece input ∷ Look ∷ [])).log.number) }
 {
     let rows = rows_of(alloc, reader, width, height, widths)?;
-    write_all(writer, rows.as_bytes())
+    write_and_flush(writer, rows.as_bytes())
 }

@@ -153,7 +153,7 @@ impl<W: Widths + Drop> Terminal<W> {
     /// sequences, or the whole screen painted anew, with its title, where the log doesn't keep them all, at
     /// number 0, and above the current number. At the current number, unless that is 0, these are no bytes. Fed
     /// to an idle terminal of this size and these widths that showed this one's screen at that number, they leave
-    /// it idle with this one's screen. The place of a pending wrap is sent as the last cell of its row once more.
+    /// it idle with this one's screen. The position of a pending wrap is sent as the last cell of its row once more.
     ///
     /// Refuses as `feed` does. Where the bytes are refused memory the terminal hasn't failed: it is as after
     /// `settle`, and the same call, asked again, gives what it would have given.
@@ -191,7 +191,7 @@ impl<W: Widths + Drop> Terminal<W> {
     /// of another terminal, of this size and these widths, that hasn't failed: the title, the cells that aren't shown
     /// yet, each once, the cursor's position, the pen, and whether the cursor is visible. Fed to an idle terminal of
     /// this size and these widths that shows the other one's screen, they leave it idle with this one's screen. The
-    /// place of a pending wrap is sent as the last cell of its row once more.
+    /// position of a pending wrap is sent as the last cell of its row once more.
     ///
     /// Refuses as `feed` does. Where the bytes are refused memory the terminal hasn't failed: it is as after
     /// `settle`, and the same call, asked again, gives what it would have given.

@@ -2,14 +2,14 @@
 ghost use Rattle.std.specs.Prelude.{◌≡◌, ◌↔◌, ◌<◌, ◌≤◌, ◌^◌, false, IsTrue, IsErr, IfOk, IfSome, OnOk, OnErr, IsErrOf};
 ghost use Rattle.std.specs.Prelude.{[], ◌∷◌};
 ghost use Rattle.std.specs.Io.KnownBytes.{Appends};
-ghost use Rattle.terminal.specs.Sent.{LooksNeedNumber, Sends, SendsAll, SendsFirst, SendsPart, SendsSome, due_from};
-ghost use Rattle.terminal.specs.Sent.{number_after, update_count};
+ghost use Rattle.terminal.specs.Sent.{LooksNeedNumber, Sends, SendsAll, SendsChunks, SendsChunksOf, SendsFirst};
+ghost use Rattle.terminal.specs.Sent.{SendsPart, SendsSome, due_from, number_after, update_count};
 ghost use Rattle.terminal.specs.Refusals.{NeedsNumber};
 ghost use Rattle.terminal.specs.Watched.{counted, counted_by};
 ghost use Rattle.terminal_table.specs.History.{Look};
 ghost use Rattle.terminal_viewers.specs.Updates.{new_standing, updates};
 
-use crate::driver::{READS, forget, write_all};
+use crate::driver::{READS, forget, write_and_flush};
 use crate::error::RunError;
 use crate::terminal::Terminal;
 use crate::watched::Watched;
@@ -46,7 +46,7 @@ fn write_update<T: Write, W: Widths + Drop>(
         → NeedsNumber (λ w. W.width_of w) terminal.old (Look ∷ []) }
 {
     let (next, bytes) = terminal.update(number)?;
-    write_all(writer, &bytes)?;
+    write_and_flush(writer, &bytes)?;
     forget(terminal, next);
     Ok(next)
 }
@@ -81,6 +81,9 @@ fn write_updates<R: Read, T: Write, W: Widths + Drop>(
     ensures err { OnErr result
         (SendsFirst (λ w. W.width_of w) every terminal.old (R.remaining reader.old.inner) (R.remaining reader.new.inner)
         (T.contents writer.old.inner) (T.contents writer.new.inner)) }
+    ensures chunks { IsErrOf result RunError.Read
+        → SendsChunksOf (λ w. W.width_of w) every terminal.old (R.remaining reader.old.inner)
+        (R.remaining reader.new.inner) (T.contents writer.old.inner) (T.contents writer.new.inner) }
     ensures read { IsErrOf result RunError.Read ↔ IsTrue reader.new.has_failed }
     ensures write { IsErrOf result RunError.Write ↔ IsTrue writer.new.has_failed }
     ensures too_long { IsErrOf result RunError.TooLong → reader.new.reads ≡ 2 ^ 48 }
@@ -151,6 +154,10 @@ pub fn run<R: Read, T: Write, W: Widths + Drop>(
         (IfSome (R.remaining reader.old.inner)
         (λ input. SendsPart (W.width_of widths) every (new_standing width height) input
         (R.remaining reader.new.inner) (T.contents writer.old.inner) (T.contents writer.new.inner))) }
+    // Where a read fails, the updates of the whole chunks read are written, and no more.
+    ensures chunks { IsErrOf result RunError.Read → IfSome (R.remaining reader.old.inner)
+        (λ input. SendsChunks (W.width_of widths) every (new_standing width height) input
+        (R.remaining reader.new.inner) (T.contents writer.old.inner) (T.contents writer.new.inner)) }
     ensures read { IsErrOf result RunError.Read ↔ IsTrue reader.new.has_failed }
     ensures write { IsErrOf result RunError.Write ↔ IsTrue writer.new.has_failed }
     ensures too_long { IsErrOf result RunError.TooLong → reader.new.reads ≡ 2 ^ 48 }

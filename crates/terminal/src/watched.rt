@@ -1,9 +1,12 @@
 //! Readers and writers whose failures are seen.
-ghost use Rattle.std.specs.Prelude.{◌≡◌, ◌||◌, false, is_err, is_ok};
+ghost use Rattle.std.specs.Prelude.{◌≡◌, ◌==◌, ◌||◌, ◌&&◌, false, length, is_err, is_ok};
+ghost use Rattle.std.specs.Prelude.{IsErr, IsErrOf, OnOk, OnErr};
 ghost use Rattle.std.specs.Io.{ReadsAtMost, WritesAtMost};
-ghost use Rattle.std.specs.Io.KnownBytes.{ReadConsumes, WriteAppends, Keeps};
+ghost use Rattle.std.specs.Io.KnownBytes.{ReadConsumes, WriteAppends, Appends, Keeps};
+ghost use Rattle.terminal.specs.Shown.{AppendsPrefix};
 ghost use Rattle.terminal.specs.Watched.{counted, is_fault};
 
+use crate::error::RunError;
 use std::io;
 use std::io::{Read, Write};
 use std::marker::Model;
@@ -140,6 +143,29 @@ impl<T: Write> Watched<T> {
             self.has_failed = true;
         }
         result
+    }
+
+    /// Writes all the bytes, of which each write may take a part. The first fault ends it: then the error is
+    /// `Write`.
+    pub fn write_all(&mut self, bytes: &[u8]) -> Result<(), RunError>
+        ensures ok { OnOk result (Appends (T.contents self.old.inner) (T.contents self.new.inner) bytes.now) }
+        ensures err { OnErr result (AppendsPrefix (T.contents self.old.inner) (T.contents self.new.inner) bytes.now) }
+        ensures only { IsErr result → IsErrOf result RunError.Write }
+        ensures failed { self.new.has_failed ≡ (self.old.has_failed || is_err result) }
+        ensures reads { self.new.reads ≡ self.old.reads }
+        ensures gone_on { self.old.has_failed ≡ false → self.new.has_gone_on ≡ self.old.has_gone_on }
+        ensures flushes { self.new.flushes ≡ self.old.flushes }
+        ensures flushed { self.new.is_flushed ≡ ((length bytes.now == 0) && self.old.is_flushed) }
+    {
+        let mut written = 0;
+        while written < bytes.len() {
+            match self.write(&bytes[written..]) {
+                Ok(0) => return Err(RunError::Write),
+                Ok(count) => written += count,
+                Err(_) => return Err(RunError::Write),
+            }
+        }
+        Ok(())
     }
 
     /// Flushes the writer.

@@ -150,7 +150,8 @@ fn pictures(rt: HostRuntime) {
         "<svg xmlns=\"http://www.w3.org/2000/svg\" width=\"10\" height=\"20\" viewBox=\"0 0 10 20\" \
          font-family=\"monospace\" font-size=\"16\">\
          <title>&lt;\u{FFFD}&gt;</title><rect x=\"0\" y=\"0\" width=\"10\" height=\"20\" fill=\"#000000\"></rect>\
-         <a href=\"file:x\"><text x=\"0\" y=\"15\" textLength=\"10\" xml:space=\"preserve\" style=\"fill:#e5e5e5;\">x</text></a>\
+         <a href=\"file:x\"><text x=\"0\" y=\"15\" textLength=\"10\" xml:space=\"preserve\" \
+         style=\"fill:#e5e5e5;\">x</text></a>\
          <rect x=\"0\" y=\"0\" width=\"10\" height=\"20\" fill=\"#e5e5e5\" fill-opacity=\"0.5\"></rect></svg>\n",
     );
 }
@@ -186,7 +187,8 @@ fn markup_in_texts_and_titles(rt: HostRuntime) {
          <title>&lt;&amp;&gt;&quot;&#39;\u{FFFD}</title>\
          <rect x=\"0\" y=\"0\" width=\"70\" height=\"20\" fill=\"#000000\"></rect>\
          <text x=\"0\" y=\"15\" textLength=\"20\" xml:space=\"preserve\" style=\"fill:#e5e5e5;\">漢</text>\
-         <text x=\"20\" y=\"15\" textLength=\"50\" xml:space=\"preserve\" style=\"fill:#e5e5e5;\">&lt;&amp;&gt;&quot;&#39;</text>\
+         <text x=\"20\" y=\"15\" textLength=\"50\" xml:space=\"preserve\" \
+         style=\"fill:#e5e5e5;\">&lt;&amp;&gt;&quot;&#39;</text>\
          <rect x=\"60\" y=\"0\" width=\"10\" height=\"20\" fill=\"#e5e5e5\" fill-opacity=\"0.5\"></rect></svg>\n",
     );
     assert_ansi(&rt, &surface, "\u{1b}[0m漢\u{1b}[0m<&>\"'\u{1b}[0m\n");

@@ -92,6 +92,18 @@ fn watched_counts_flushes_and_calls_after_a_fault(rt: HostRuntime) {
     assert_eq!(rt; writer.flushes(), 2);
 }
 
+#[test]
+fn watched_writes_all_or_ends_at_the_first_fault(rt: HostRuntime) {
+    let mut writer = Watched::new(sink_of(rt.alloc(), 2, 3, 0));
+    assert_eq!(rt; writer.write_all(b"abcde"), Ok(()));
+    assert_eq!(rt; writer.write_all(b"f"), Err(RunError::Write));
+    assert!(rt; writer.failed() && !writer.has_gone_on());
+    assert_eq!(rt; writer.into_inner().text.as_slice(), b"abcde".as_slice());
+    let mut writer = Watched::new(sink_of(rt.alloc(), 0, 100, 0));
+    assert_eq!(rt; writer.write_all(b""), Ok(()));
+    assert_eq!(rt; writer.write_all(b"a"), Err(RunError::Write));
+}
+
 // The kind of the error, if there is one.
 fn kind_of<T: Drop>(answer: io::Result<T>) -> Option<ErrorKind> {
     match answer {

@@ -1,7 +1,7 @@
 use Rattle.std.proofs.Common.{Result, Ok, Err, OnOk, OnErr}
 use Rattle.std.proofs.lemmas.Result.{err_from_is_err_and}
 use Rattle.terminal_viewers.specs.Updates.{new_standing}
-use Rattle.terminal.proofs.SendLemmas.{new_all, new_part, new_past, nothing_sent}
+use Rattle.terminal.proofs.SendLemmas.{new_all, new_chunks, new_part, new_past, nothing_sent}
 use Rattle.terminal.proofs.updates.run.Goals as goal
 
 if_ok : {T E : Type 0} (r : Result T E) (P Q : Type 0) → (P → Q) → OnOk r P → OnOk r Q
@@ -24,6 +24,10 @@ returns-clause-number g c = λ e. new_past (λ w. g.W.Widths.width_of w) c.args.
 pub returns-clause-ok : goal.returns-clause-ok
 returns-clause-ok g c = if_ok c.write_updates.result _ _ (new_all (λ w. g.W.Widths.width_of w) c.args.widths c.args.every c.in_ok-terminal.terminal c.args.width c.args.height (g.R.Read.remaining c.args.reader.now.inner) (g.T.Write.contents c.args.writer.now.inner) (g.T.Write.contents c.write_updates.new.writer.inner)
     (record { stands = c.in_ok-terminal.ensures.stands; log = c.in_ok-terminal.ensures.log }) c.in_ok-terminal.ensures.widths) c.write_updates.ensures.ok
+
+pub returns-clause-chunks : goal.returns-clause-chunks
+returns-clause-chunks g c = λ e. new_chunks (λ w. g.W.Widths.width_of w) c.args.widths c.args.every c.in_ok-terminal.terminal c.args.width c.args.height (g.R.Read.remaining c.args.reader.now.inner) (g.R.Read.remaining c.write_updates.new.reader.inner) (g.T.Write.contents c.args.writer.now.inner) (g.T.Write.contents c.write_updates.new.writer.inner)
+    (record { stands = c.in_ok-terminal.ensures.stands; log = c.in_ok-terminal.ensures.log }) c.in_ok-terminal.ensures.widths (c.write_updates.ensures.chunks e)
 
 pub returns-clause-err : goal.returns-clause-err
 returns-clause-err g c = if_err c.write_updates.result _ _ (new_part (λ w. g.W.Widths.width_of w) c.args.widths c.args.every c.in_ok-terminal.terminal c.args.width c.args.height (g.R.Read.remaining c.args.reader.now.inner) (g.R.Read.remaining c.write_updates.new.reader.inner) (g.T.Write.contents c.args.writer.now.inner) (g.T.Write.contents c.write_updates.new.writer.inner)

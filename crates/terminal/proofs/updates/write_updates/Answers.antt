@@ -12,7 +12,7 @@ use Rattle.terminal.specs.Watched.{Watched}
 use Rattle.terminal_table.specs.History.{Piece}
 use Rattle.terminal.proofs.AppendLemmas.{keeps_same, no_fault, not_gone_on}
 use Rattle.terminal.proofs.FlushLemmas.{none_flushed, flushes_more, flushes_next, flushes_all}
-use Rattle.terminal.proofs.SendLemmas.{SendsOn, none_read, on_first, on_lighter, on_more, on_next, on_all, on_part, on_some, on_last, on_feed_past, on_look_past, on_end_past}
+use Rattle.terminal.proofs.SendLemmas.{SendsOn, none_read, on_chunks, on_first, on_lighter, on_more, on_next, on_all, on_part, on_some, on_last, on_feed_past, on_look_past, on_end_past}
 use Rattle.terminal.proofs.updates.write_updates.Goals as goal
 use Rattle.terminal.proofs.updates.write_updates.Goals.{then-left-eq0+in_ok-number, else-left-eq0}
 
@@ -43,6 +43,9 @@ loop-init g c = record {
 
 pub returns-clause-err : goal.returns-clause-err
 returns-clause-err g c = on_part (λ w. g.W.Widths.width_of w) c.args.every c.args.terminal.now (g.T.Write.contents c.args.writer.now.inner) (g.T.Write.contents c.loop.writer.inner) c.loop.terminal c.loop.number c.loop.left c.loop.invariant.widths (g.R.Read.remaining c.args.reader.now.inner) (g.R.Read.remaining c.loop.reader.inner) (g.R.Read.remaining c.loop.reader.inner) [] c.loop.invariant.sends (none_read (g.R.Read.remaining c.loop.reader.inner) (g.R.Read.remaining c.loop.reader.inner) (keeps_same (g.R.Read.remaining c.loop.reader.inner)))
+
+pub returns-in-Err-clause-chunks : goal.returns-in-Err-clause-chunks
+returns-in-Err-clause-chunks g c = λ e. on_chunks (λ w. g.W.Widths.width_of w) c.args.every c.args.terminal.now (g.T.Write.contents c.args.writer.now.inner) (g.T.Write.contents c.loop.writer.inner) c.loop.terminal c.loop.number c.loop.left c.loop.invariant.widths (g.R.Read.remaining c.args.reader.now.inner) (g.R.Read.remaining c.loop.reader.inner) (g.R.Read.remaining c.read.new.self.inner) c.loop.invariant.sends c.in-Err.ensures.bytes
 
 pub returns-in-Err-clause-err : goal.returns-in-Err-clause-err
 returns-in-Err-clause-err g c = on_part (λ w. g.W.Widths.width_of w) c.args.every c.args.terminal.now (g.T.Write.contents c.args.writer.now.inner) (g.T.Write.contents c.loop.writer.inner) c.loop.terminal c.loop.number c.loop.left c.loop.invariant.widths (g.R.Read.remaining c.args.reader.now.inner) (g.R.Read.remaining c.loop.reader.inner) (g.R.Read.remaining c.read.new.self.inner) [] c.loop.invariant.sends (none_read (g.R.Read.remaining c.loop.reader.inner) (g.R.Read.remaining c.read.new.self.inner) c.in-Err.ensures.bytes)
