@@ -52,7 +52,7 @@ class Answer:
             self.faults.setdefault(tuple(path.split("/")), []).append(text)
 
     def refusals(self):
-        """Returns each function that has a goal which is not proved, with that goal, but for functions whose proof only
+        """Returns each function that has a goal which is not proved, with that goal, except functions whose proof only
         names what is no longer there."""
         found = {}
         for path, texts in self.faults.items():

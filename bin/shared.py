@@ -29,7 +29,7 @@ def crates_of(root=ROOT):
 
 
 def crates_below(name, uses):
-    """Returns the crates that a crate stands on, lowest first, and the crate itself."""
+    """Returns the crates that a crate uses, lowest first, and the crate itself."""
     found = {}
     for below in uses[name]:
         if below in uses:
@@ -62,8 +62,8 @@ def endings(crate, cases, files=()):
     written = {name.decode(): output for name, output in zip(parts[1::2], parts[2::2])}
     if not written:
         sys.exit(f"{crate}: rt try ran nothing\n{ran.stderr.decode(errors='replace')}")
-    told = re.findall(rb"(.*?)^case=(\S+) (?:run=ended status=(\d+))?.*?\n", ran.stderr, flags=re.M | re.S)
-    named = {name.decode(): (int(status), faults) for faults, name, status in told if status}
+    ended = re.findall(rb"(.*?)^case=(\S+) (?:run=ended status=(\d+))?.*?\n", ran.stderr, flags=re.M | re.S)
+    named = {name.decode(): (int(status), faults) for faults, name, status in ended if status}
     return {name: (status, written.get(name, b""), faults) for name, (status, faults) in named.items()}
 
 

@@ -1,4 +1,4 @@
-"""The functions of source files, by the kit's own lexer: where each stands, and how the prover names it."""
+"""The functions of source files, by the kit's own lexer: where each is, and how the prover names it."""
 import re
 import subprocess
 import tempfile
@@ -43,7 +43,7 @@ class Function:
 
     def place(self, modules):
         """The parts of the prover's whole path, given the modules of the crate's types: the prover names a method by
-        the module of its type, wherever the impl stands."""
+        the module of its type, wherever the impl is."""
         module = modules.get(self.owner[0], self.module) if len(self.owner) == 1 else self.module
         return (*module, *([self.owner_name] if self.owner else []), self.name)
 
@@ -69,7 +69,7 @@ class Function:
 
 @dataclass
 class Block:
-    """An item with a body, or any other block in braces: its kind, where it stands, and its name once that is read."""
+    """An item with a body, or any other block in braces: its kind, where it is, and its name once that is read."""
 
     kind: str
     attributes: int

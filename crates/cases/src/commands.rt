@@ -1,4 +1,4 @@
-//! Operating system commands, selections and links.
+//! Commands of the operating system (OSC), selections and links.
 use crate::actions::say_command;
 use crate::fault::Fault;
 use crate::row::Row;

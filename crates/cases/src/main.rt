@@ -2,17 +2,17 @@
 //!
 //! - `actions`: actions as rows write them, in words near their `Debug`.
 //! - `attributes`: attributes as rows write them: a word for each one that isn't plain, as `italic`,
-//!   `underline=Curly`, `background=1` (a colour of the palette), `link=URI`, `found_link=URI` (one that was found
-//!   in a text).
+//!   `underline=Curly`, `background=1` (a colour of the palette), `link=URI`, `found_link=URI` (one that was
+//!   found in a text).
 //! - `call`: the calls that are made of a line, as a row writes them.
-//! - `changes`: changes, as rows write them: a text in quotes, all attributes by their words, a position as `to X
-//!   Y`, where `3` is counted from the start, `<1` from the end, and `+1` and `-1` from the cursor; a colour as
-//!   `Default` or its number in the palette; a row's size and the cursor's shape by their names.
+//! - `changes`: changes, as rows write them: a text in quotes, all attributes by their words, a position as `to
+//!   X Y`, where `3` is counted from the start, `<1` from the end, and `+1` and `-1` from the cursor; a colour
+//!   as `Default` or its number in the palette; a row's size and the cursor's shape by their names.
 //! - `codes`: codes by number and by name.
-//! - `commands`: Operating system commands, selections and links.
+//! - `commands`: commands of the operating system (OSC), selections and links.
 //! - `edits`: calls that edit the line, with their arguments in the order of the call's and the number last.
-//! - `escapes`: bytes as a table writes them, both ways: `\x1b` is a byte, `\u{304b}` a character, `\n` and `\r`
-//!   are LF and CR, `\s` is a space, `\\` is `\`, and `<<128 of 1;>>` is the text `1;` 128 times.
+//! - `escapes`: bytes as a table writes them, both ways: `\x1b` is a byte, `\u{304b}` a character, `\n` and
+//!   `\r` are LF and CR, `\s` is a space, `\\` is `\`, and `<<128 of 1;>>` is the text `1;` 128 times.
 //! - `fault`: why a row can't be run.
 //! - `framing`: events of streams.
 //! - `keeping`: how a line is kept while calls are made of it.
@@ -33,9 +33,9 @@
 //! - `streams`: streams that are read, and lists of actions that are joined, written and read again.
 //! - `surfaces`: surfaces that are changed and asked by steps.
 //! - `tally`: how many cases ran, by kind.
-//! - `terminals`: terminals after pieces and calls.
-//! - `updates`: updates and patches: of a terminal, which a viewer reads, and of an input that is run; and what is
-//!   sent for a change.
+//! - `terminals`: terminals after chunks and calls.
+//! - `updates`: updates and patches: of a terminal, which a viewer reads, and of an input that is run; and the
+//!   encodings of changes.
 //! - `values`: colours, widths and cells.
 #![tactic(auto)]
 

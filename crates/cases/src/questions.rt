@@ -109,7 +109,7 @@ fn say_clicked(line: &Line, column: usize, sheet: &mut Sheet) {
 }
 
 /// Asks a question by the name of its call, with its arguments in order. `attrs COLUMN` asks for the attributes of the
-/// cell that begins there, `cluster` for the texts of all clusters, `cluster PLACE` for one with the places of its
+/// cell that begins there, `cluster` for the texts of all clusters, `cluster NUMBER` for one with the offsets of its
 /// bytes, and `compute_double_click_range COLUMN` takes every text but one space for a word.
 pub fn ask(line: &Line, call: &Call<'_>, sheet: &mut Sheet) -> Result<(), Fault> {
     match call.word(0) {

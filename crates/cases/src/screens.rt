@@ -31,23 +31,23 @@ pub fn screen(row: &Row<'_>, sheet: &mut Sheet) -> Result<(), Fault> {
     Ok(())
 }
 
-// Feeds a piece, or settles.
-fn feed_piece(terminal: &mut Plain, row: &Row<'_>, piece: &str) -> Result<(), Fault> {
-    if piece == "<settle>" {
+// Feeds a chunk, or settles.
+fn feed_chunk(terminal: &mut Plain, row: &Row<'_>, chunk: &str) -> Result<(), Fault> {
+    if chunk == "<settle>" {
         terminal.settle()?;
     } else {
-        let bytes = escapes::read(row.alloc(), piece)?;
+        let bytes = escapes::read(row.alloc(), chunk)?;
         terminal.feed(&bytes)?;
     }
     Ok(())
 }
 
-/// `WIDTH HEIGHT | PIECES => ROWS | COLUMN ROW | NUMBER`: the same after pieces with ` + ` between them, of which
-/// `<settle>` settles; what is held at the end is not shown.
+/// `WIDTH HEIGHT | PIECES => ROWS | COLUMN ROW | NUMBER`: what a terminal shows after chunks with ` + ` between them,
+/// of which `<settle>` settles; what is held at the end is not shown.
 pub fn settled(row: &Row<'_>, sheet: &mut Sheet) -> Result<(), Fault> {
     let mut terminal = terminal_of(row.alloc(), row.column(0))?;
-    for piece in row.column(1).split(" + ") {
-        feed_piece(&mut terminal, row, piece.trim())?;
+    for chunk in row.column(1).split(" + ") {
+        feed_chunk(&mut terminal, row, chunk.trim())?;
     }
     say_screen(&terminal, sheet)
 }

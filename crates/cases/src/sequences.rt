@@ -124,7 +124,7 @@ pub fn esc(row: &Row<'_>, sheet: &mut Sheet) -> Result<(), Fault> {
 }
 
 // Writes the sequence at a prefix, its tokens side by side.
-fn say_front(alloc: Global, prefix: &CsiFront<'_>, sheet: &mut Sheet) -> Result<(), Fault> {
+fn say_prefix(alloc: Global, prefix: &CsiFront<'_>, sheet: &mut Sheet) -> Result<(), Fault> {
     let mut printed = String::new(alloc);
     for token in &prefix.params {
         write!(printed, "{token}")?;
@@ -153,7 +153,7 @@ fn say_front(alloc: Global, prefix: &CsiFront<'_>, sheet: &mut Sheet) -> Result<
 pub fn prefix(row: &Row<'_>, sheet: &mut Sheet) -> Result<(), Fault> {
     let bytes = row.bytes(0)?;
     match read_csi(row.alloc(), &bytes)? {
-        Some(prefix) => say_front(row.alloc(), &prefix, sheet),
+        Some(prefix) => say_prefix(row.alloc(), &prefix, sheet),
         None => {
             sheet.word("none");
             Ok(())

@@ -140,7 +140,7 @@ fn say_torn(alloc: Global, bytes: &[u8], whole: &[Action], sheet: &mut Sheet) ->
     Ok(())
 }
 
-// Says the actions of some bytes, which they have in any pieces.
+// Says the actions of some bytes, which they have in any chunks.
 fn say_stream(alloc: Global, bytes: &[u8], sheet: &mut Sheet) -> Result<(), Fault> {
     let whole = Parser::new(alloc).parse_as_vec(bytes)?;
     say_actions(alloc, &whole, sheet);
@@ -200,7 +200,7 @@ fn say_copies(alloc: Global, actions: &[Action], sheet: &mut Sheet) -> Result<()
 }
 
 /// `PIECES => ACTIONS | BYTES | ACTIONS`: the actions of streams that are each read by themselves, what `encode` writes
-/// for the list of them, and what that is read as, in any pieces.
+/// for the list of them, and what that is read as, in any chunks.
 pub fn list(row: &Row<'_>, sheet: &mut Sheet) -> Result<(), Fault> {
     let actions = list_of(row)?;
     say_actions(row.alloc(), &actions, sheet);
@@ -240,7 +240,7 @@ fn say_first(alloc: Global, found: Option<(Action, usize)>, sheet: &mut Sheet) {
     sheet.word("+");
 }
 
-/// `PIECES => ANSWERS`: what `parse_first` answers for each piece, all handed to one parser: an action and how many
+/// `PIECES => ANSWERS`: what `parse_first` answers for each chunk, all handed to one parser: an action and how many
 /// bytes were read, or `none`, each with a `+` after it.
 pub fn first(row: &Row<'_>, sheet: &mut Sheet) -> Result<(), Fault> {
     let mut parser = Parser::new(row.alloc());
@@ -292,8 +292,8 @@ fn say_pieces(
     Ok(())
 }
 
-/// `PIECES => ITEMS`: what `pieces` lends of each piece, all handed to one parser: texts between quotes and the actions
-/// between them, with a `+` after the items of each piece.
+/// `PIECES => ITEMS`: what `pieces` lends of each chunk, all handed to one parser: texts between quotes and the actions
+/// between them, with a `+` after the items of each chunk.
 pub fn pieces(row: &Row<'_>, sheet: &mut Sheet) -> Result<(), Fault> {
     let mut parser = Parser::new(row.alloc());
     for piece in row.column(0).split(" + ") {

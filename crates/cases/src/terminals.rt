@@ -1,4 +1,4 @@
-//! Terminals after pieces and calls.
+//! Terminals after chunks and calls.
 use crate::call::Call;
 use crate::fault::Fault;
 use crate::row::{Row, number_up_to};
@@ -45,7 +45,7 @@ fn ask(pair: &mut Pair, call: &Call<'_>, sheet: &mut Sheet) -> Result<(), Fault>
             sheet.quoted_bytes(&replies);
         }
         "update" => pair.say_update(call.number(1, sheet), sheet)?,
-        "send" => pair.say_sent(call.number(1, sheet), sheet)?,
+        "send" => pair.say_read_update(call.number(1, sheet), sheet)?,
         "patch" => pair.say_patch(sheet)?,
         _ => {
             if !surfaces::ask_surface(pair.terminal.surface(), call, sheet)? {
@@ -152,7 +152,7 @@ impl Seen {
 // The bytes are cut in two at their first positions only, so that many take no longer.
 const MOST_CUTS: usize = 400;
 
-/// Says in which pieces the bytes lead to something else; whether there are none.
+/// Says in which chunks the bytes lead to something else; whether there are none.
 pub fn say_torn(
     alloc: Global,
     size: &str,
@@ -173,7 +173,7 @@ pub fn say_torn(
     Ok(all_same && is_same)
 }
 
-// Says in which pieces the bytes lead to something else on a terminal of this size, or that its viewer does; whether
+// Says in which chunks the bytes lead to something else on a terminal of this size, or that its viewer does; whether
 // neither is so.
 fn say_independent(
     alloc: Global,
@@ -187,9 +187,9 @@ fn say_independent(
     Ok(say_torn(alloc, size, bytes, &whole, sheet)? && is_viewed)
 }
 
-/// `BYTES => same`: whether terminals of several sizes show the same, and are sent the same, if the bytes are cut in
-/// two at each position, and byte by byte; and whether a new viewer that reads the update for 0 byte by byte shows the
-/// screen.
+/// `BYTES => same`: whether terminals of several sizes show the same, and have the same updates, if the bytes are cut
+/// in two at each position, and byte by byte; and whether a new viewer that reads the update for 0 byte by byte shows
+/// the screen.
 pub fn torn(row: &Row<'_>, sheet: &mut Sheet) -> Result<(), Fault> {
     let bytes = row.bytes(0)?;
     let mut all_same = true;

@@ -1,5 +1,4 @@
-//! Updates and patches: of a terminal, which a viewer reads, and of an input that is run; and what is sent for a
-//! change.
+//! Updates and patches: of a terminal, which a viewer reads, and of an input that is run; and the encodings of changes.
 ghost use Rattle.std.specs.Prelude.{◌<◌, ◌≤◌};
 
 use crate::call::Call;
@@ -107,7 +106,7 @@ impl Pair {
 
     /// Writes the number and the bytes of an update, which the viewer reads one by one; says so where it then shows
     /// another screen.
-    pub fn say_sent(&mut self, number: usize, sheet: &mut Sheet) -> Result<(), Fault> {
+    pub fn say_read_update(&mut self, number: usize, sheet: &mut Sheet) -> Result<(), Fault> {
         let bytes = self.take_update(number, sheet)?;
         self.say_read(&bytes, sheet)
     }
@@ -115,12 +114,12 @@ impl Pair {
 
 // Gives its bytes, at most `most` at a time.
 #[derive(Drop)]
-struct Pieces<'a> {
+struct Chunks<'a> {
     bytes: &'a [u8],
     most: usize,
 }
 
-impl Read for Pieces<'_> {
+impl Read for Chunks<'_> {
     fn read(&mut self, buf: &mut [u8]) -> io::Result<usize> {
         let wanted = buf.len().min(self.most);
         self.bytes.read(&mut buf[..wanted])
@@ -154,7 +153,7 @@ fn written(row: &Row<'_>, most: usize) -> Result<Vec<u8>, Fault> {
     let every = number_up_to(4096, row.column(1))?;
     let bytes = row.bytes(2)?;
     let text = Vec::new(row.alloc());
-    let mut reader = Watched::new(Pieces {
+    let mut reader = Watched::new(Chunks {
         bytes: &bytes,
         most,
     });
@@ -185,7 +184,7 @@ pub fn run_input(row: &Row<'_>, sheet: &mut Sheet) -> Result<(), Fault> {
     Ok(())
 }
 
-/// `WIDTH HEIGHT | CHANGE => BYTES`: what is sent for a change to a terminal of this size, or that it has no spelling.
+/// `WIDTH HEIGHT | CHANGE => BYTES`: the encoding of a change for a terminal of this size, or that it has none.
 pub fn rendered(row: &Row<'_>, sheet: &mut Sheet) -> Result<(), Fault> {
     let (width, height) = row.column(0).split_once(' ').ok_or(Fault::Number)?;
     let width = number_up_to(4096, width)?;

@@ -9,7 +9,7 @@ use Rattle.std.specs.Cmp.{IsTotalOrder}
 use Rattle.std.specs.declared.cmp.Ordering.{Ordering}
 use Rattle.std.specs.declared.cmp.Ordering.TheVariants.{Less, Equal, Greater}
 use Rattle.std.proofs.lemmas.List.{append_assoc, append-nil}
-use Rattle.cell_base.proofs.Pieces.{all_joined}
+use Rattle.cell_base.proofs.Fields.{all_joined}
 
 -- ---- the order of keys
 

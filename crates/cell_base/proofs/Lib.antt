@@ -2,7 +2,7 @@ pub mod KeyOrder
 mod KnownWidths
 pub mod LinkLaws
 pub mod LinkRows
-pub mod Pieces
+pub mod Fields
 pub mod ReadingSteps
 pub mod SameTexts
 pub mod TextsReading

@@ -15,9 +15,9 @@ use Rattle.std.proofs.lemmas.Str.{IsUtf8-from_is_utf8, is_utf8-from_IsUtf8, IsUt
 use Rattle.std.proofs.lemmas.Bool.{and_parts, and_from, cond-false, ne_eqb, false≢true}
 use Rattle.std.proofs.lemmas.List.Splits.{join_with_byte-slice_split, length-slice_split}
 use Rattle.cell_base.specs.Link.{Link, Param, texts_of}
-use Rattle.cell_base.specs.LinkText.{param_text, params_text, link_text, text_of_link, pieces, is_param, param_of, by_key, param_pieces, params_of, texts_reading, link_reading, is_value_text, is_key_text, is_writable, is_empty_link, IsReadBack}
+use Rattle.cell_base.specs.LinkText.{param_text, params_text, link_text, text_of_link, fields, is_param, param_of, by_key, param_fields, params_of, texts_reading, link_reading, is_value_text, is_key_text, is_writable, is_empty_link, IsReadBack}
 use Rattle.cell_base.specs.declared.link_error.LinkError.TheVariants.{Utf8, Params}
-use Rattle.cell_base.proofs.Pieces.{Lacks, EachLacks, all_joined, all_prefix, all_back, pieces_lack, pieces_more, pieces_joined, joined_lacks, each_lacks, utf8_around, utf8_before, utf8_after, joined_utf8, each_utf8, cut_joined, before_lacks, before_is, after_is, has_byte}
+use Rattle.cell_base.proofs.Fields.{Lacks, EachLacks, all_joined, all_prefix, all_back, fields_lack, fields_more, fields_joined, joined_lacks, each_lacks, utf8_around, utf8_before, utf8_after, joined_utf8, each_utf8, cut_joined, before_lacks, before_is, after_is, has_byte}
 use Rattle.cell_base.proofs.TextsReading.{reading_by}
 use Rattle.cell_base.proofs.KeyOrder.{put, fold_each, sorted_by_key, by_key_sorted}
 
@@ -87,7 +87,7 @@ pub record IsPrinted (qs : List Param) : Type 0 where
   pub sorted : IsStrictlySortedBy (slice_cmp nat_cmp) (keys_of qs)
 
 abbrev by_colon : List ℕ → List (List ℕ)
-by_colon = pieces 58
+by_colon = fields 58
 
 params_by : (P : List ℕ) (b : Bool) → list_all is_param (cond b [] (by_colon P)) ≡ true → Lacks 59 P → IsUtf8 P → IsPrinted (by_key (map param_of (cond b [] (by_colon P))))
 params_by P true h s u = record { each = tt; sorted = sorted_by_key {X = List ℕ} (slice_cmp nat_cmp) nat_list_cmp_total [] }
@@ -96,17 +96,17 @@ params_by P false h s u =
     let s' = each_lacks 59 58 (by_colon P) (subst (Lacks 59) (sym is) s) in
     let u' = each_utf8 58 (by_colon P) (omega arith) (subst IsUtf8 (sym is) u) in
     record {
-      each = fold_each (slice_cmp nat_cmp) IsKey IsValue (map param_of (by_colon P)) [] (params_cut (by_colon P) h (pieces_lack 58 P) s' u') tt;
+      each = fold_each (slice_cmp nat_cmp) IsKey IsValue (map param_of (by_colon P)) [] (params_cut (by_colon P) h (fields_lack 58 P) s' u') tt;
       sorted = sorted_by_key (slice_cmp nat_cmp) nat_list_cmp_total (map param_of (by_colon P));
     }
 
-params_printed : (P : List ℕ) → list_all is_param (param_pieces P) ≡ true → Lacks 59 P → IsUtf8 P → IsPrinted (params_of P)
+params_printed : (P : List ℕ) → list_all is_param (param_fields P) ≡ true → Lacks 59 P → IsUtf8 P → IsPrinted (params_of P)
 params_printed P h s u = params_by P (eqb (length P) 0) h s u
 
 -- ---- the text of parameters
 
 record ReadsBack (qs : List Param) : Type 0 where
-  are : list_all is_param (param_pieces (params_text qs)) ≡ true
+  are : list_all is_param (param_fields (params_text qs)) ≡ true
   back : params_of (params_text qs) ≡ qs
   utf8 : is_utf8 (params_text qs) ≡ true
   lacks : Lacks 59 (params_text qs)
@@ -126,13 +126,13 @@ param_long p = long p.0 p.1
 text_long : (q : Param) (qs : List Param) → eqb (length (params_text (q ∷ qs))) 0 ≡ false
 text_long q qs = joined_long (param_text q) (map param_text qs) (param_long q)
 
-text_pieces : (q : Param) (qs : List Param) → EachParam (q ∷ qs) → param_pieces (params_text (q ∷ qs)) ≡ map param_text (q ∷ qs)
-text_pieces q qs h = cond-false _ [] (by_colon (params_text (q ∷ qs))) (text_long q qs) ∙ pieces_joined 58 (param_text q) (map param_text qs) (texts_lack_colon (q ∷ qs) h)
+text_fields : (q : Param) (qs : List Param) → EachParam (q ∷ qs) → param_fields (params_text (q ∷ qs)) ≡ map param_text (q ∷ qs)
+text_fields q qs h = cond-false _ [] (by_colon (params_text (q ∷ qs))) (text_long q qs) ∙ fields_joined 58 (param_text q) (map param_text qs) (texts_lack_colon (q ∷ qs) h)
 
 reads_back : (qs : List Param) → IsPrinted qs → ReadsBack qs
 reads_back [] h = record { are = refl; back = refl; utf8 = is_utf8-from_IsUtf8 [] (joined_utf8 58 [] (omega arith) tt); lacks = tt }
 reads_back (q ∷ qs) h =
-    let e = text_pieces q qs h.each in
+    let e = text_fields q qs h.each in
     record {
       are = ap (list_all is_param) e ∙ all_params (q ∷ qs);
       back = ap (λ ts. by_key (map param_of ts)) e ∙ ap by_key (params_back (q ∷ qs) h.each) ∙ by_key_sorted (slice_cmp nat_cmp) nat_list_cmp_total (q ∷ qs) h.sorted;
@@ -147,12 +147,12 @@ unfolding link_reading
 reading_of_parts a p [] l = absurd (omega arith)
 reading_of_parts a p (u ∷ us) l = refl
 
-text_parts : (PT U : List ℕ) → Lacks 59 PT → link_reading (pieces 59 (56 ∷ 59 ∷ (PT ++ 59 ∷ U))) ≡ texts_reading PT U
+text_parts : (PT U : List ℕ) → Lacks 59 PT → link_reading (fields 59 (56 ∷ 59 ∷ (PT ++ 59 ∷ U))) ≡ texts_reading PT U
 text_parts PT U h =
-    let first : pieces 59 (56 ∷ 59 ∷ (PT ++ 59 ∷ U)) ≡ (56 ∷ []) ∷ pieces 59 (PT ++ 59 ∷ U) = pieces_more 59 (56 ∷ []) (PT ++ 59 ∷ U) (refl, tt) in
-    let second : pieces 59 (PT ++ 59 ∷ U) ≡ PT ∷ pieces 59 U = pieces_more 59 PT U h in
+    let first : fields 59 (56 ∷ 59 ∷ (PT ++ 59 ∷ U)) ≡ (56 ∷ []) ∷ fields 59 (PT ++ 59 ∷ U) = fields_more 59 (56 ∷ []) (PT ++ 59 ∷ U) (refl, tt) in
+    let second : fields 59 (PT ++ 59 ∷ U) ≡ PT ∷ fields 59 U = fields_more 59 PT U h in
     ap link_reading (first ∙ ap (λ ts. (56 ∷ []) ∷ ts) second)
-    ∙ reading_of_parts (56 ∷ []) PT (pieces 59 U) (omega (arith, length-slice_split (λ b. eqb b 59) U))
+    ∙ reading_of_parts (56 ∷ []) PT (fields 59 U) (omega (arith, length-slice_split (λ b. eqb b 59) U))
     ∙ ap (texts_reading PT) (join_with_byte-slice_split 59 U)
 
 -- ---- which texts are empty
@@ -187,7 +187,7 @@ same_empty P = same_empty_by P (eqb (length P) 0)
 
 -- ---- the law
 
-back_some : (P U : List ℕ) → (eqb (length P) 0 && eqb (length U) 0) ≡ false → is_utf8 P ≡ true → is_utf8 U ≡ true → list_all is_param (param_pieces P) ≡ true → Lacks 59 P
+back_some : (P U : List ℕ) → (eqb (length P) 0 && eqb (length U) 0) ≡ false → is_utf8 P ≡ true → is_utf8 U ≡ true → list_all is_param (param_fields P) ≡ true → Lacks 59 P
     → texts_reading (params_text (params_of P)) U ≡ Ok (Some (record { params = params_of P; uri = U; implicit = false }))
 unfolding texts_reading
 back_some P U empty p u are s =
@@ -195,16 +195,16 @@ back_some P U empty p u are s =
     let none : (eqb (length (params_text (params_of P))) 0 && eqb (length U) 0) ≡ false = ap (λ b. b && eqb (length U) 0) (same_empty P) ∙ empty in
     λ i. cond (none i) (Ok None) (cond (and_from (is_utf8 (params_text (params_of P))) (is_utf8 U) r.utf8 u i) (cond (r.are i) (Ok (Some (record { params = r.back i; uri = U; implicit = false }))) (Err Params)) (Err Utf8))
 
-none_back : link_reading (pieces 59 (56 ∷ 59 ∷ 59 ∷ [])) ≡ Ok None
+none_back : link_reading (fields 59 (56 ∷ 59 ∷ 59 ∷ [])) ≡ Ok None
 unfolding link_reading texts_reading
 none_back = refl
 
-back_by : (P U : List ℕ) (b1 b2 b3 : Bool) (o : Option Link) → (eqb (length P) 0 && eqb (length U) 0) ≡ b1 → (is_utf8 P && is_utf8 U) ≡ b2 → list_all is_param (param_pieces P) ≡ b3 → Lacks 59 P
-    → reading_by b1 b2 b3 P U ≡ Ok o → link_reading (pieces 59 (text_of_link o)) ≡ Ok o
+back_by : (P U : List ℕ) (b1 b2 b3 : Bool) (o : Option Link) → (eqb (length P) 0 && eqb (length U) 0) ≡ b1 → (is_utf8 P && is_utf8 U) ≡ b2 → list_all is_param (param_fields P) ≡ b3 → Lacks 59 P
+    → reading_by b1 b2 b3 P U ≡ Ok o → link_reading (fields 59 (text_of_link o)) ≡ Ok o
 unfolding link_text
 back_by P U true b2 b3 o e1 e2 e3 s e =
     let is : None ≡ o = cc in
-    subst (λ x. link_reading (pieces 59 (text_of_link x)) ≡ Ok x) is none_back
+    subst (λ x. link_reading (fields 59 (text_of_link x)) ≡ Ok x) is none_back
 back_by P U false false b3 o e1 e2 e3 s e = absurd (cc)
 back_by P U false true false o e1 e2 e3 s e = absurd (cc)
 back_by P U false true true o e1 e2 e3 s e =
@@ -212,14 +212,14 @@ back_by P U false true true o e1 e2 e3 s e =
     let is : Some l ≡ o = cc in
     let both = and_parts (is_utf8 P) (is_utf8 U) e2 in
     let r = reads_back (params_of P) (params_printed P e3 s (IsUtf8-from_is_utf8 P both.0)) in
-    subst (λ x. link_reading (pieces 59 (text_of_link x)) ≡ Ok x) is (text_parts (params_text (params_of P)) U r.lacks ∙ back_some P U e1 both.0 both.1 e3 s)
+    subst (λ x. link_reading (fields 59 (text_of_link x)) ≡ Ok x) is (text_parts (params_text (params_of P)) U r.lacks ∙ back_some P U e1 both.0 both.1 e3 s)
 
 -- the link of two texts, of which the first has no `;`, reads back
-pub texts_back : (P U : List ℕ) (o : Option Link) → Lacks 59 P → texts_reading P U ≡ Ok o → link_reading (pieces 59 (text_of_link o)) ≡ Ok o
+pub texts_back : (P U : List ℕ) (o : Option Link) → Lacks 59 P → texts_reading P U ≡ Ok o → link_reading (fields 59 (text_of_link o)) ≡ Ok o
 unfolding texts_reading
-texts_back P U o s e = back_by P U (eqb (length P) 0 && eqb (length U) 0) (is_utf8 P && is_utf8 U) (list_all is_param (param_pieces P)) o refl refl refl s e
+texts_back P U o s e = back_by P U (eqb (length P) 0 && eqb (length U) 0) (is_utf8 P && is_utf8 U) (list_all is_param (param_fields P)) o refl refl refl s e
 
-parts_back : (ts : List (List ℕ)) (o : Option Link) → EachLacks 59 ts → link_reading ts ≡ Ok o → link_reading (pieces 59 (text_of_link o)) ≡ Ok o
+parts_back : (ts : List (List ℕ)) (o : Option Link) → EachLacks 59 ts → link_reading ts ≡ Ok o → link_reading (fields 59 (text_of_link o)) ≡ Ok o
 unfolding link_reading
 parts_back [] o s e = absurd (cc)
 parts_back (a ∷ []) o s e = absurd (cc)
@@ -227,15 +227,15 @@ parts_back (a ∷ p ∷ []) o s e = absurd (cc)
 parts_back (a ∷ p ∷ u ∷ us) o s e = texts_back p (join_with_byte 59 (u ∷ us)) o s.1.0 e
 
 -- what the parts of a body gave reads back
-pub body_back : (body : List ℕ) (o : Option Link) → link_reading (pieces 59 body) ≡ Ok o → link_reading (pieces 59 (text_of_link o)) ≡ Ok o
-body_back body o e = parts_back (pieces 59 body) o (pieces_lack 59 body) e
+pub body_back : (body : List ℕ) (o : Option Link) → link_reading (fields 59 body) ≡ Ok o → link_reading (fields 59 (text_of_link o)) ≡ Ok o
+body_back body o e = parts_back (fields 59 body) o (fields_lack 59 body) e
 
 when_ok : {T E : Type 0} (r : Result T E) (P : T → Type 0) → ((x : T) → r ≡ Ok x → P x) → IfOk r P
 when_ok (Ok x) P h = h x refl
 when_ok (Err e) P h = tt
 
-pub body_law : (body : List ℕ) → IfOk (link_reading (pieces 59 body)) (λ link. link_reading (pieces 59 (text_of_link link)) ≡ Ok link)
-body_law body = when_ok (link_reading (pieces 59 body)) _ (body_back body)
+pub body_law : (body : List ℕ) → IfOk (link_reading (fields 59 body)) (λ link. link_reading (fields 59 (text_of_link link)) ≡ Ok link)
+body_law body = when_ok (link_reading (fields 59 body)) _ (body_back body)
 
 -- ---- a link that reads back
 
@@ -307,7 +307,7 @@ empty_text : (qs : List Param) (U : List ℕ) → (eqb (length (params_text qs))
 empty_text [] U e = e
 empty_text (q ∷ qs) U e = ap (λ b. b && eqb (length U) 0) (ne_eqb (length (q ∷ qs)) 0 (λ p. absurd (omega (arith, p))))
 
-read_by : (P U : List ℕ) (b1 b2 b3 : Bool) (l : Link) → (eqb (length P) 0 && eqb (length U) 0) ≡ b1 → (is_utf8 P && is_utf8 U) ≡ b2 → list_all is_param (param_pieces P) ≡ b3 → Lacks 59 P
+read_by : (P U : List ℕ) (b1 b2 b3 : Bool) (l : Link) → (eqb (length P) 0 && eqb (length U) 0) ≡ b1 → (is_utf8 P && is_utf8 U) ≡ b2 → list_all is_param (param_fields P) ≡ b3 → Lacks 59 P
     → reading_by b1 b2 b3 P U ≡ Ok (Some l) → IsRead l
 read_by P U true b2 b3 l e1 e2 e3 s e = absurd (cc)
 read_by P U false false b3 l e1 e2 e3 s e = absurd (cc)
@@ -328,7 +328,7 @@ parts_read (a ∷ []) l s e = absurd (cc)
 parts_read (a ∷ p ∷ []) l s e = absurd (cc)
 parts_read (a ∷ p ∷ u ∷ us) l s e =
     let U : List ℕ = join_with_byte 59 (u ∷ us) in
-    read_by p U (eqb (length p) 0 && eqb (length U) 0) (is_utf8 p && is_utf8 U) (list_all is_param (param_pieces p)) l refl refl refl s.1.0 e
+    read_by p U (eqb (length p) 0 && eqb (length U) 0) (is_utf8 p && is_utf8 U) (list_all is_param (param_fields p)) l refl refl refl s.1.0 e
 
 -- both ways
 pub written_back : (l : Link) → EachText l.params → IsUtf8 l.uri → IsStrictlySortedBy (slice_cmp nat_cmp) (keys_of l.params) → l.implicit ≡ false → is_empty_link l ≡ false → list_all is_writable l.params ≡ true → IsReadBack l
@@ -337,13 +337,13 @@ written_back l u v sorted given some writable =
     (writable_reads l.params l.uri (record { each = each_is l.params u writable; sorted = sorted }) v some)
 
 pub back_is_given : (l : Link) → IsReadBack l → l.implicit ≡ false
-back_is_given l e = (parts_read (pieces 59 (link_text l)) l (pieces_lack 59 (link_text l)) e).given
+back_is_given l e = (parts_read (fields 59 (link_text l)) l (fields_lack 59 (link_text l)) e).given
 
 pub back_is_some : (l : Link) → IsReadBack l → is_empty_link l ≡ false
-back_is_some l e = (parts_read (pieces 59 (link_text l)) l (pieces_lack 59 (link_text l)) e).some
+back_is_some l e = (parts_read (fields 59 (link_text l)) l (fields_lack 59 (link_text l)) e).some
 
 pub back_is_writable : (l : Link) → IsReadBack l → list_all is_writable l.params ≡ true
-back_is_writable l e = is_each l.params (parts_read (pieces 59 (link_text l)) l (pieces_lack 59 (link_text l)) e).printed.each
+back_is_writable l e = is_each l.params (parts_read (fields 59 (link_text l)) l (fields_lack 59 (link_text l)) e).printed.each
 
 -- ---- the texts of a map
 

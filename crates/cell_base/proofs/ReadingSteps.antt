@@ -21,7 +21,7 @@ use Rattle.std.specs.declared.cmp.Ordering.{Ordering}
 use Rattle.std.specs.declared.cmp.Ordering.TheVariants.{Less, Equal, Greater}
 use Rattle.cell_base.specs.Link.{Param, texts_of}
 use Rattle.cell_base.specs.LinkText.{put_param, by_key, param_text, params_text}
-use Rattle.cell_base.proofs.Pieces.{first_within, joined_utf8, each_utf8}
+use Rattle.cell_base.proofs.Fields.{first_within, joined_utf8, each_utf8}
 
 -- what `from_utf8` answers is `is_utf8`
 pub utf8_answer : {S E : Type 0} (P : S → Type 0) (Q : E → Type 0) (bs : List ℕ) (r : Result S E) → MatchResult r (λ s. P s × IsUtf8 bs) (λ e. ¬ (IsUtf8 bs) × Q e) → is_ok r ≡ is_utf8 bs

@@ -28,9 +28,9 @@ abbrev pub text_of_link : Option Link → List ℕ
 text_of_link None = 56 ∷ 59 ∷ 59 ∷ []
 text_of_link (Some l) = link_text l
 
--- the pieces of a text between its bytes c; a text without c is one piece
-abbrev pub pieces : ℕ → List ℕ → List (List ℕ)
-pieces c text = slice_split (λ b. b == c) text
+-- the fields of a text between its bytes c; a text without c is one field
+abbrev pub fields : ℕ → List ℕ → List (List ℕ)
+fields c text = slice_split (λ b. b == c) text
 
 -- a pair of a key and a value has a `=`, and is cut at the first one
 abbrev pub is_param : List ℕ → Bool
@@ -49,18 +49,18 @@ abbrev pub by_key : List Param → List Param
 by_key ps = fold put_param [] ps
 
 -- the pairs of a text: none of the empty text
-abbrev pub param_pieces : List ℕ → List (List ℕ)
-param_pieces text = if length text == 0 then [] else pieces 58 text
+abbrev pub param_fields : List ℕ → List (List ℕ)
+param_fields text = if length text == 0 then [] else fields 58 text
 
 abbrev pub params_of : List ℕ → List Param
-params_of text = by_key (map param_of (param_pieces text))
+params_of text = by_key (map param_of (param_fields text))
 
 -- the link of two texts: none where both are empty
 unfoldable pub texts_reading : List ℕ → List ℕ → Result (Option Link) LinkError
 texts_reading params uri =
     if length params == 0 && length uri == 0 then Ok None else
     (if is_utf8 params && is_utf8 uri then
-    (if list_all is_param (param_pieces params) then
+    (if list_all is_param (param_fields params) then
     Ok (Some (record { params = params_of params; uri = uri; implicit = false }))
     else Err Params) else Err Utf8)
 
@@ -91,4 +91,4 @@ is_empty_link link = length link.params == 0 && length link.uri == 0
 
 -- the link's text, from its parts between `;`, reads back as the link
 abbrev pub IsReadBack : Link → Type 0
-IsReadBack link = link_reading (pieces 59 (link_text link)) ≡ Ok (Some link)
+IsReadBack link = link_reading (fields 59 (link_text link)) ≡ Ok (Some link)

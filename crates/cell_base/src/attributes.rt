@@ -1,4 +1,4 @@
-//! The plain values by which a cell, a cursor and a line are set.
+//! Enums of attributes, cursors, lines and positions, and the numbers of changes.
 ghost use Rattle.std.specs.Prelude.{◌≡◌};
 ghost use Rattle.cell_base.specs.Style.{is_underlined, is_blinking_text, is_blinking_shape};
 
@@ -91,7 +91,7 @@ pub enum CursorVisibility {
     Visible,
 }
 
-/// The look of the cursor.
+/// The shape of the cursor, and whether it blinks.
 #[derive(Debug, Clone, Copy, PartialEq, Eq, Hash, Default)]
 pub enum CursorShape {
     #[default]

@@ -2,7 +2,7 @@
 ghost use Rattle.std.specs.Prelude.{◌≡◌, ◌≤◌, ◌↔◌, ◌==◌, ◌&&◌, true, false, not, None, [], ◌∷◌, encode_utf8};
 ghost use Rattle.std.specs.Prelude.{IfOk, IsOk, OnOk, OnErr, IsTrue};
 ghost use Rattle.std.specs.Borrow.{sem};
-ghost use Rattle.cell_base.specs.Attributes.{Attributes, plain};
+ghost use Rattle.cell_base.specs.Attributes.{plain};
 ghost use Rattle.cell_base.specs.CellContent.{cell_of, blank_cell, shows_as_space};
 ghost use Rattle.cell_base.specs.CellText.{cell_with, text_bytes};
 ghost use Rattle.cell_base.specs.InlineText.{LiesInline};
@@ -88,17 +88,6 @@ impl Cell {
         })
     }
 
-    /// The columns that the cell of a cluster of `width` columns takes: 1 or 2.
-    #[inline(always)]
-    pub fn columns_for(text: &str, width: usize) -> usize
-        requires { width ≤ 2 }
-        ensures value { (attributes : Attributes) → result ≡ (cell_of text.now width attributes).width }
-        ensures some { 1 ≤ result }
-        ensures most { result ≤ 2 }
-    {
-        if is_wide(text, width) { 2 } else { 1 }
-    }
-
     /// The cell of a printable ASCII character (20h to 7Eh), of one column.
     pub fn new_ascii(character: u8, attrs: CellAttributes) -> Cell
         requires { is_printable character ≡ true }
@@ -119,15 +108,6 @@ impl Cell {
         ensures refused { OnErr result (self.new ≡ self.old) }
     {
         self.set(CellText::of_ascii(character), attrs)
-    }
-
-    /// Becomes a space with attributes. It is refused only where these have a link, and stays as it was then.
-    pub fn set_blank(&mut self, attrs: &CellAttributes) -> Result<(), AllocError>
-        ensures done { OnOk result (self.new ≡ blank_cell attrs.now) }
-        ensures succeeds { attrs.now.hyperlink ≡ None → IsOk result }
-        ensures refused { OnErr result (self.new ≡ self.old) }
-    {
-        self.set(CellText::of_ascii(b' '), attrs)
     }
 
     /// Becomes the cell of a cluster of `width` columns, where 0 counts as 1; where this is refused, the
@@ -184,11 +164,12 @@ impl Cell {
         self.text.as_str()
     }
 
-    /// The columns that the cell takes: 1 or 2.
+    /// The columns that the cell takes: 1 or 2. `lawful` is what each cell keeps to.
     pub fn width(&self) -> usize
         ensures value { result ≡ self.now.width }
         ensures some { 1 ≤ result }
         ensures most { result ≤ 2 }
+        ensures lawful { IsCell self.now }
     {
         self.text.columns()
     }
@@ -208,13 +189,6 @@ impl Cell {
         &mut self.attributes
     }
 
-    // The invariant of every cell.
-    pub(crate) fn is_lawful(&self)
-        ensures { IsCell self.now }
-    {
-        let _text = &self.text;
-    }
-
     // Whether text, width and attributes are the same.
     fn is_same(&self, other: &Cell) -> bool
         ensures { IsTrue result ↔ (self.now ≡ other.now) }
@@ -225,9 +199,11 @@ impl Cell {
     }
 
     /// A copy that shares the link. It is refused only where there is one, or where the text has more than 15 bytes.
+    /// `lawful` is what each cell keeps to.
     pub fn try_clone(&self) -> Result<Cell, AllocError>
         ensures copy { IfOk result (λ copy. copy ≡ self.now) }
         ensures succeeds { LiesInline self.now.text → self.now.attributes.hyperlink ≡ None → IsOk result }
+        ensures lawful { IsCell self.now }
     {
         Ok(Cell {
             text: self.text.try_clone()?,
@@ -238,7 +214,7 @@ impl Cell {
 
 // Whether the cell of a cluster of `width` columns takes two.
 #[inline(always)]
-fn is_wide(text: &str, width: usize) -> bool
+pub(crate) fn is_wide(text: &str, width: usize) -> bool
     ensures { result ≡ (width == 2 && not (shows_as_space text.now)) }
 {
     width == 2 && !shows_as_space(text)

@@ -167,7 +167,6 @@ impl Hyperlink {
         if self.is_empty() {
             return false;
         }
-        are_in_order(&self.params);
         are_writable(&self.params)
     }
 
@@ -279,9 +278,10 @@ fn same_params(a: &BTreeMap<String, String>, b: &BTreeMap<String, String>) -> bo
     *a == *b
 }
 
-// Whether a link's text can hold each key and each value unchanged.
+// Whether a link's text can hold each key and each value unchanged. The keys are in the order of their bytes.
 fn are_writable(params: &BTreeMap<String, String>) -> bool
-    ensures { result ≡ list_all is_writable (texts_of params.now.entries) }
+    ensures value { result ≡ list_all is_writable (texts_of params.now.entries) }
+    ensures order { IsStrictlySortedBy (slice_cmp nat_cmp) (keys_of (texts_of params.now.entries)) }
 {
     for (key, value) in params {
         if !is_writable(key.as_str(), value.as_str()) {
@@ -289,11 +289,4 @@ fn are_writable(params: &BTreeMap<String, String>) -> bool
         }
     }
     true
-}
-
-// The keys are in the order of their bytes.
-fn are_in_order(params: &BTreeMap<String, String>)
-    ensures { IsStrictlySortedBy (slice_cmp nat_cmp) (keys_of (texts_of params.now.entries)) }
-{
-    let _count = params.len();
 }

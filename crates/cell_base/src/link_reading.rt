@@ -4,7 +4,7 @@ ghost use Rattle.std.specs.List.{before_first, after_first, list_all, list_any, 
 ghost use Rattle.std.specs.Str.{is_utf8};
 ghost use Rattle.std.specs.String.{string_bytes};
 ghost use Rattle.cell_base.specs.Link.{texts_of};
-ghost use Rattle.cell_base.specs.LinkText.{is_key_text, is_param, is_value_text, is_writable, param_of, param_pieces};
+ghost use Rattle.cell_base.specs.LinkText.{is_key_text, is_param, is_value_text, is_writable, param_of, param_fields};
 ghost use Rattle.cell_base.specs.LinkText.{params_of, put_param};
 
 use std::alloc::{AllocError, Global};
@@ -92,7 +92,7 @@ pub(crate) fn is_writable(key: &str, value: &str) -> bool
 
 // Whether each pair of the text has a `=`.
 pub(crate) fn are_params(text: &str) -> bool
-    ensures { result ≡ list_all is_param (param_pieces text.now) }
+    ensures { result ≡ list_all is_param (param_fields text.now) }
 {
     text.is_empty() || text.split(':').all(|pair| has_equals(pair))
 }
@@ -148,5 +148,6 @@ pub(crate) fn join_parts(alloc: Global, parts: &[&[u8]]) -> Result<String, Alloc
         }
         joined.extend_from_slice(part)?;
     }
-    Ok(String::from_utf8(joined).unwrap())
+    // SAFETY: the joined parts are UTF-8, as the caller says.
+    Ok(unsafe { String::from_utf8_unchecked(joined) })
 }

@@ -1,4 +1,5 @@
-//! Laws of rows: each is the contract of a function that does nothing.
+//! Laws of rows and screens: halves come in pairs, also after columns are set. Each is the contract of a function that
+//! does nothing.
 ghost use Rattle.std.specs.Prelude.{◌≡◌, ℕ, ◌+◌, ◌<◌, ◌≤◌, ◌++◌, List, length};
 ghost use Rattle.cell_base.specs.Row.{Row, set_columns};
 ghost use Rattle.cell_base.specs.Screen.{Screen, IsScreen, new_screen, scrolled, line_feed, carriage_return};

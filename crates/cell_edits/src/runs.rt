@@ -11,6 +11,7 @@ ghost use Rattle.cell_edits.specs.RowEdits.{overlaid};
 ghost use Rattle.cell_edits.specs.TextRuns.{position_after, plain_cells, text_on, text_left, Leads, Stops};
 
 use crate::row::{open, push_blanks_with};
+use cell_base::for_rows::{columns_for, set_blank};
 use cell_base::{Cell, CellAttributes, Widths};
 use std::alloc::{AllocError, Global};
 use text_clusters::split_first_cluster;
@@ -39,7 +40,7 @@ fn put_blank(cells: &mut Vec<Cell>, at: usize, attrs: &CellAttributes) -> Result
     ensures len { vec_len cells.new ≡ vec_len cells.old }
     ensures items { OnOk result (cells.new.items ≡ slice_set cells.old.items at (blank_cell attrs.now)) }
 {
-    cells[at].set_blank(attrs)
+    set_blank(&mut cells[at], attrs)
 }
 
 // The cell at a position becomes that of a cluster.
@@ -162,7 +163,7 @@ fn cluster_columns(cluster: &str, width: usize) -> usize
     requires { width ≤ 2 }
     ensures { (attributes : Attributes) → result ≡ length (cell_columns (cell_of cluster.now width attributes)) }
 {
-    if Cell::columns_for(cluster, width) >= 2 {
+    if columns_for(cluster, width) >= 2 {
         2
     } else {
         1

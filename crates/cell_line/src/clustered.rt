@@ -3,7 +3,7 @@ ghost use Rattle.std.specs.Prelude.{◌≡◌, ◌≤◌, [], length, OnOk};
 ghost use Rattle.cell_base.specs.CellContent.{cell_of};
 ghost use Rattle.cell_edits.specs.RowEdits.{padded, with_cell};
 
-use cell_base::laws::cells_are_lawful;
+use cell_base::for_rows::columns_for;
 use cell_base::{Cell, CellAttributes};
 use clustered_row::ClusteredRow;
 use std::alloc::{AllocError, Global};
@@ -39,7 +39,7 @@ pub(crate) fn set_cluster(
     requires { width ≤ 2 }
     ensures { OnOk result (row.new ≡ with_cell row.old at (cell_of text.now width attrs.now)) }
 {
-    let Some(end) = at.checked_add(Cell::columns_for(text, width)) else {
+    let Some(end) = at.checked_add(columns_for(text, width)) else {
         return Err(AllocError);
     };
     pad(row, end)?;
@@ -51,7 +51,6 @@ pub(crate) fn set_cluster(
 pub(crate) fn set_cell(row: &mut ClusteredRow, at: usize, cell: &Cell) -> Result<(), AllocError>
     ensures { OnOk result (row.new ≡ with_cell row.old at cell.now) }
 {
-    cells_are_lawful(cell);
     set_cluster(row, at, cell.str(), cell.width(), cell.attrs())?;
     Ok(())
 }

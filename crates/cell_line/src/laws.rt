@@ -45,7 +45,7 @@ pub fn lines_are_whole(line: &Line)
     ensures whole { IsWhole line.now.columns }
     ensures row { row_of_visible (visible_cells line.now.columns) ≡ line.now.columns }
 {
-    line.is_whole();
+    let _count = line.len();
 }
 
 /// The columns of the visible cells of a whole row are the row; and the visible cells of a row in

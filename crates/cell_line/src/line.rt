@@ -1,4 +1,4 @@
-//! A row of columns with a number and bits.
+//! `Line`: a row of columns with a number and bits.
 ghost use Rattle.std.specs.Prelude.{◌≡◌, length, IfOk, IsTrue, ◌↔◌};
 ghost use Rattle.cell_base.specs.CellContent.{row_of_cells};
 ghost use Rattle.std.specs.Borrow.{sem};

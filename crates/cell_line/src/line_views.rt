@@ -25,9 +25,11 @@ use std::borrow::CowStr;
 use std::ops::Range;
 
 impl Line {
-    /// How many columns there are.
+    /// How many columns there are. `whole` is a law of lines: each left half has its right half after it, and there is
+    /// no other right half.
     pub fn len(&self) -> usize
-        ensures { result ≡ len self.now }
+        ensures value { result ≡ len self.now }
+        ensures whole { IsWhole self.now.columns }
     {
         self.stored_cells().len()
     }
@@ -38,7 +40,6 @@ impl Line {
         ensures cells { cells_left result ≡ visible_cells self.now }
         ensures row { row_of_visible (cells_left result) ≡ self.now.columns }
     {
-        self.is_whole();
         VisibleCellIter::new(self.stored_cells())
     }
 
@@ -50,13 +51,6 @@ impl Line {
         ensures { region_left result ≡ visible_cells_between self.now cols.start cols.end }
     {
         RegionIter::new(self.stored_cells(), cols.start, cols.end)
-    }
-
-    // Each left half has its right half after it, and there is no other right half.
-    pub(crate) fn is_whole(&self)
-        ensures { IsWhole self.now.columns }
-    {
-        self.stored_cells().is_whole();
     }
 
     /// The clusters of the visible cells, in order.

@@ -1,4 +1,4 @@
-//! What `terminal_viewers` sends of a surface. For that crate alone: users call `Surface::get_changes`.
+//! The changes of a surface that `terminal_viewers` encodes. For that crate alone: users call `Surface::get_changes`.
 ghost use Rattle.std.specs.Prelude.{◌≡◌, ◌∷◌, [], false, map, IfOk};
 ghost use Rattle.std.specs.Option.{option_map};
 ghost use Rattle.screen_change.specs.ChangeValue.{Title};

@@ -14,7 +14,7 @@ pub use screen_difference::laws::{
 };
 use screen_log::laws::kept_changes_are_counted;
 pub use screen_log::laws::{
-    another_change_is_due_after_the_others, forgotten_changes_are_not_due, nothing_due_is_lost,
+    another_change_is_due_last, forgotten_changes_are_not_due, nothing_due_is_lost,
     other_sizes_empty_the_log,
 };
 pub use screen_repaint::laws::repaints_show_the_display;

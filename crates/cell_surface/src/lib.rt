@@ -1,4 +1,11 @@
 //! The surface: a screen with numbered changes; and the layers below it: cells, lines and changes.
+//!
+//! - `contents`: texts and cells of a surface.
+//! - `differences`: differences between surfaces and lines.
+//! - `error`: why a call of a surface was refused.
+//! - `for_viewers`: the changes of a surface that `terminal_viewers` encodes.
+//! - `laws`: laws of surfaces: each is the contract of a function that does nothing.
+//! - `surface`: `Surface`: a screen with numbered changes.
 #![tactic(auto)]
 
 mod contents;

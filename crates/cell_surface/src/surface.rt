@@ -1,4 +1,4 @@
-//! The surface.
+//! `Surface`: a screen with numbered changes.
 ghost use Rattle.std.specs.Prelude.{◌≡◌, ◌≢◌, ◌≤◌, [], None, OnOk, OnErr, ◌+◌, ◌-◌, ◌<◌, ◌^◌, ◌↔◌, ◌==◌, All, false};
 ghost use Rattle.std.specs.Prelude.{true, length, map, not, IsErrOf, IfOk};
 ghost use Rattle.std.specs.String.{string_bytes};
@@ -185,6 +185,8 @@ impl<W: Widths + Drop> Surface<W> {
         ensures unchanged { IsErrOf result SurfaceError.Number → self.new ≡ self.old }
         ensures still_failed { IsErrOf result SurfaceError.Failed → self.new ≡ self.old }
         ensures memory { IsErrOf result SurfaceError.Memory → self.new.is_failed ≡ true }
+        ensures numbered { IsErrOf result SurfaceError.Memory → number_of self.old + 1 < 2 ^ 64 }
+        ensures fits { OnOk result (number_of self.new < 2 ^ 64) }
     {
         if self.is_failed {
             return Err(SurfaceError::Failed);

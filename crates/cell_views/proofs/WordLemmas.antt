@@ -149,7 +149,7 @@ module _ (test : List ℕ → Bool) where
       (λ e. ap (λ o. unwrap_or o at) (begun_other None v cells e) ∙ begun_back at cells
       ∙ sym (last ∙ ap (λ xs. fold (λ _ v. v.column) at xs) (prefix_push (reverse cells) v e)))
 
-  -- the same, step by step
+  -- step by step
   abbrev pub begun_from : ℕ → Option ℕ → List VisibleCell → Option ℕ
   begun_from at start cells = begun_in start (filter (λ v. nat_le v.column at) cells)
 

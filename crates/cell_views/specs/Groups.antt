@@ -11,7 +11,7 @@ joined begins (xs ∷ next ∷ groups) x = xs ∷ joined begins (next ∷ groups
 abbrev pub groups_by : {A : Type 0} → (List A → A → Bool) → List A → List (List A)
 groups_by begins xs = fold (joined begins) [] xs
 
--- ---- the same without a walk
+-- ---- the groups by what holds of them, without a fold
 
 -- none of the elements begins a group after those before it
 abbrev pub GoOn : {A : Type 0} → (List A → A → Bool) → List A → List A → Type 0

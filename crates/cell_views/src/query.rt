@@ -7,6 +7,7 @@ ghost use Rattle.cell_base.specs.Attributes.{plain};
 ghost use Rattle.cell_base.specs.CellContent.{row_of_cells};
 ghost use Rattle.cell_base.specs.Row.{space};
 ghost use Rattle.cell_base.specs.SameAttributes.{same_attributes};
+ghost use Rattle.cell_base.specs.WholeRow.{IsWhole};
 ghost use Rattle.cell_edits.specs.VisibleCells.{visible_cells, visible_from, first_of, contents, cell_at};
 ghost use Rattle.cell_edits.specs.VisibleCells.{cells_between, texts_joined, has_link, is_whitespace_row, ends_wrapped};
 ghost use Rattle.cell_views.specs.CellRefView.{shown_by};
@@ -156,8 +157,10 @@ pub fn ends_wrapped(cells: StoredCells<'_>) -> bool
 
 // Whether the visible cells have the same contents, each in turn.
 fn same_contents(cells: StoredCells<'_>, other: StoredCells<'_>) -> bool
-    ensures { IsTrue result
+    ensures value { IsTrue result
         ↔ (contents (visible_cells (stored_row cells.entry)) ≡ contents (visible_cells (stored_row other.entry))) }
+    ensures whole { IsWhole (stored_row cells.entry) }
+    ensures other_whole { IsWhole (stored_row other.entry) }
 {
     let mut theirs = VisibleCellIter::new(other);
     for cell in VisibleCellIter::new(cells) {
@@ -180,7 +183,5 @@ fn same_contents(cells: StoredCells<'_>, other: StoredCells<'_>) -> bool
 pub fn same_columns(cells: StoredCells<'_>, other: StoredCells<'_>) -> bool
     ensures { IsTrue result ↔ (stored_row cells.entry ≡ stored_row other.entry) }
 {
-    cells.is_whole();
-    other.is_whole();
     same_contents(cells, other)
 }

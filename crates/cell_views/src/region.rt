@@ -1,6 +1,7 @@
 //! The visible cells of a part of a row.
 ghost use Rattle.std.specs.Prelude.{◌≡◌, ◌+◌, ◌<◌, ◌≤◌, ◌^◌, [], length};
 ghost use Rattle.cell_base.specs.CellContent.{row_of_cells};
+ghost use Rattle.cell_base.specs.WholeRow.{IsWhole};
 ghost use Rattle.cell_views.specs.Halves.{half_left};
 ghost use Rattle.cell_views.specs.StoredCells.{stored_row};
 ghost use Rattle.cell_views.specs.Region.{start_half, inner_start, end_half, inner_end};
@@ -33,6 +34,7 @@ fn start_edge(row: &ClusteredRow, start: usize) -> Edge<'_>
     requires within { start < length row.now }
     requires small { start + 1 < 2 ^ 64 }
     ensures column { result.column ≡ inner_start start row.now }
+    ensures whole { IsWhole row.now }
     ensures half { half_left result.half ≡ start_half start row.now }
 {
     if row.is_split(start) {
@@ -126,7 +128,6 @@ impl<'a> RegionIter<'a> {
         if start == end {
             return RegionIter::none();
         }
-        row.is_whole();
         let first = start_edge(row, start);
         let last = end_edge(row, end);
         let cells = row.cells_between(first.column, last.column);

@@ -17,26 +17,16 @@ pub enum StoredCells<'a> {
 }
 
 impl<'a> StoredCells<'a> {
-    /// How many columns the row has.
+    /// How many columns the row has. `whole` is a law of each stored row: after the first column of a wide cell comes
+    /// its second one, with the same attributes, and there is no other second column.
     #[inline(always)]
     pub fn len(&self) -> usize
-        ensures { result ≡ length (stored_row self.now) }
+        ensures value { result ≡ length (stored_row self.now) }
+        ensures whole { IsWhole (stored_row self.now) }
     {
         match self {
             StoredCells::Cells(cells) => cells.len(),
             StoredCells::Clustered(row) => row.len(),
-        }
-    }
-
-    /// Does nothing; its contract is a law of each stored row: after the first column of a wide cell
-    /// comes its second one, with the same attributes, and there is no other second column.
-    #[inline(always)]
-    pub fn is_whole(&self)
-        ensures { IsWhole (stored_row self.now) }
-    {
-        match self {
-            StoredCells::Cells(_) => {}
-            StoredCells::Clustered(row) => row.is_whole(),
         }
     }
 }

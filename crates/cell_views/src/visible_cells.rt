@@ -95,16 +95,18 @@ pub struct VisibleCellIter<'a> {
 
 impl<'a> VisibleCellIter<'a> {
     ghost use Rattle.cell_base.specs.CellContent.{row_of_cells};
+    ghost use Rattle.cell_base.specs.WholeRow.{IsWhole};
     ghost use Rattle.cell_edits.specs.VisibleCells.{visible_from};
     ghost use Rattle.clustered_row.specs.VisibleCells as clustered;
     ghost use Rattle.cell_views.specs.CellRefView.{cells_left};
     ghost use Rattle.cell_views.specs.Halves.{half_left};
     ghost use Rattle.cell_views.specs.StoredCells.{stored_row};
 
-    /// All of a row.
+    /// All of a row. `whole` is the law of rows that `StoredCells::len` says.
     #[inline(always)]
     pub fn new(stored: StoredCells<'a>) -> VisibleCellIter<'a>
-        ensures { cells_left result ≡ visible_from 0 (stored_row stored.entry) }
+        ensures value { cells_left result ≡ visible_from 0 (stored_row stored.entry) }
+        ensures whole { IsWhole (stored_row stored.entry) }
     {
         match stored {
             StoredCells::Cells(cells) => VisibleCellIter::from_column(cells, 0),

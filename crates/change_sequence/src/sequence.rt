@@ -1,4 +1,4 @@
-//! The sequence.
+//! `ChangeSequence`: a list of changes that knows where it leaves the cursor.
 ghost use Rattle.std.specs.Prelude.{◌≡◌, ◌≤◌, ◌<◌, ◌-ℤ◌, [], pos, map, unsigned_abs, IfOk, OnOk, OnErr};
 ghost use Rattle.std.specs.Int.{saturate_signed, w64};
 ghost use Rattle.screen_change.specs.ValueOf.{value_of};

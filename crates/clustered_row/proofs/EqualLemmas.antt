@@ -5,7 +5,7 @@ use Rattle.std.proofs.lemmas.List.{drop_all, drop-append-le, take-take, take-app
 use Rattle.cell_base.specs.Attributes.{Attributes}
 use Rattle.cell_base.specs.Row.{Row, blank}
 use Rattle.cell_base.specs.WholeRow.{IsWhole}
-use Rattle.cell_base.proofs.RowLemmas.{whole-append, whole-blanks, whole_starts}
+use Rattle.cell_base.proofs.RowLemmas.{whole-append, whole-blanks}
 use Rattle.clustered_row.specs.declared.cell_size.CellSize.{CellSize}
 use Rattle.clustered_row.specs.declared.cut_text.CutText.{CutText}
 use Rattle.clustered_row.specs.declared.position.Position.{Position}
@@ -18,7 +18,7 @@ use Rattle.clustered_row.specs.RunSteps.{counted}
 use Rattle.clustered_row.specs.Sizes.{bytes_of, columns_of, faces_of}
 use Rattle.clustered_row.specs.VisibleColumns.{is_split}
 use Rattle.clustered_row.proofs.AskedLemmas.{split_before, split_after}
-use Rattle.clustered_row.proofs.BetweenLemmas.{IsText, not_after, parted_before, written_after}
+use Rattle.clustered_row.proofs.BetweenLemmas.{IsText, parted_before, written_after}
 use Rattle.clustered_row.proofs.PartLemmas.{start_closed, end_closed}
 use Rattle.clustered_row.proofs.RowLemmas.{row_of-take}
 use Rattle.clustered_row.proofs.RunLists.{around, cut_prefix, length_next, length_parts, spread_last, whole_prefix}
@@ -179,18 +179,3 @@ none_after c d m w v a b p q h k =
 
 pub text_of_cut : (cut : CutText) → IsText cut.text.items cut.sizes.items
 text_of_cut cut = record { bytes = fits cut.text.items cut.sizes.items cut.sized_bytes cut.sized_columns (sized_of cut); parts = cut.parts }
-
--- ---- all columns
-
--- whole rows that are looked at nowhere
-pub all_unequal : (row other : Row) (m : ℕ) → IsWhole row → IsWhole other → length row ≤ m → length other ≤ m → AreEqualAround 0 m row other
-all_unequal row other m w v h k =
-    record {
-      order = omega arith;
-      prefix = refl;
-      back = drop_all m row h ∙ sym (drop_all m other k);
-      first = record { ending = refl; beginning = whole_starts row w };
-      other_first = record { ending = refl; beginning = whole_starts other v };
-      last = whole_at m row w (not_after row m h);
-      other_last = whole_at m other v (not_after other m k);
-    }

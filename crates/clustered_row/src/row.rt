@@ -3,6 +3,7 @@ ghost use Rattle.std.specs.Prelude.{◌≡◌, ◌+◌, ◌-◌, ◌<◌, ◌≤
 ghost use Rattle.std.specs.List.{list_all};
 ghost use Rattle.text_clusters.specs.Plain.{is_printable};
 ghost use Rattle.cell_base.specs.Row.{blank, plain_row, set_columns};
+ghost use Rattle.cell_base.specs.WholeRow.{IsWhole};
 ghost use Rattle.cell_edits.specs.RowEdits.{resized};
 ghost use Rattle.clustered_row.specs.Faces.{plain_faces, row_of};
 ghost use Rattle.clustered_row.specs.Sizes.{bytes_of, columns_of, faces_of, is_cut};
@@ -51,11 +52,14 @@ impl ClusteredRow {
         }
     }
 
-    /// How many columns there are.
+    /// How many columns there are. `whole` is a law of rows: after the first column of a wide cell comes its second
+    /// one, with the same attributes, and there is no other second column.
     #[inline(always)]
     pub fn len(&self) -> usize
-        ensures { result ≡ length self.now }
+        ensures value { result ≡ length self.now }
+        ensures whole { IsWhole self.now }
     {
+        prove!(self.columns.len() <= self.width);
         self.width
     }
 

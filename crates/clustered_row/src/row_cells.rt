@@ -2,7 +2,6 @@
 ghost use Rattle.std.specs.Prelude.{◌≡◌, ◌+◌, ◌-◌, ◌<◌, ◌++◌, length, IfOk, OnOk};
 ghost use Rattle.cell_base.specs.CellContent.{row_of_cells};
 ghost use Rattle.cell_base.specs.Row.{set_columns};
-ghost use Rattle.cell_base.specs.WholeRow.{IsWhole};
 ghost use Rattle.cell_edits.specs.CellList.{cell_columns};
 ghost use Rattle.cell_edits.specs.ShownCells.{lent_cells};
 ghost use Rattle.clustered_row.specs.FirstCells.{first_columns};
@@ -11,7 +10,6 @@ ghost use Rattle.clustered_row.specs.VisibleCells.{shown_by};
 use crate::row::ClusteredRow;
 use crate::visible::ClusteredCell;
 use cell_base::Cell;
-use cell_base::laws::cells_are_lawful;
 use std::alloc::{AllocError, Global};
 
 // Appends a visible cell, and after a wide one a blank with its attributes.
@@ -54,7 +52,6 @@ impl ClusteredRow {
             (λ next. self.new ≡ set_columns self.old at (first_columns cell.now (length self.old - at))) }
         ensures next { IfOk result (λ next. next ≡ at + length (first_columns cell.now (length self.old - at))) }
     {
-        cells_are_lawful(cell);
         let columns = cell.width();
         if self.width - at < columns {
             self.set_plain(at, " ", cell.attrs())?;
@@ -64,21 +61,11 @@ impl ClusteredRow {
         Ok(at + columns)
     }
 
-    /// Does nothing; its contract is a law of rows: after the first column of a wide cell comes its second one, with
-    /// the same attributes, and there is no other second column.
-    #[inline(always)]
-    pub fn is_whole(&self)
-        ensures { IsWhole self.now }
-    {
-        let _stored = self.columns.len();
-    }
-
     /// The cells of the row, one for each column: after each wide one comes a blank with its attributes.
     pub fn to_cells(&self, alloc: Global) -> Result<Vec<Cell>, AllocError>
         ensures cells { IfOk result (λ cells. cells.items ≡ lent_cells self.now) }
         ensures row { IfOk result (λ cells. row_of_cells cells.items ≡ self.now) }
     {
-        self.is_whole();
         let mut cells = Vec::new(alloc);
         for cell in self.visible_cells() {
             push_cell(alloc, &mut cells, &cell)?;

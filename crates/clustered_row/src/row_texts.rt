@@ -11,7 +11,8 @@ ghost use Rattle.cell_edits.specs.TextRuns.{position_after, plain_cells, text_on
 
 use crate::row::ClusteredRow;
 use crate::text_cells::size_of;
-use cell_base::{Cell, CellAttributes, Widths};
+use cell_base::for_rows::columns_for;
+use cell_base::{CellAttributes, Widths};
 use std::alloc::AllocError;
 use text_clusters::split_first_cluster;
 
@@ -23,7 +24,7 @@ const SPACES: &str = "                                                          
 fn shows_as_space(text: &str) -> bool
     ensures { result ≡ cells.shows_as_space text.now }
 {
-    Cell::columns_for(text, 2) == 1
+    columns_for(text, 2) == 1
 }
 
 // A text of `count` spaces.
@@ -76,7 +77,7 @@ impl ClusteredRow {
             self.set_plain(at, " ", attrs)?;
             return Ok(());
         }
-        let count = Cell::columns_for(text, width);
+        let count = columns_for(text, width);
         let size = size_of(text.len(), count);
         if size.is_plain() {
             self.set_plain(at, text, attrs)?;
@@ -168,7 +169,7 @@ impl ClusteredRow {
             return Ok(None);
         };
         let width = usize::from(w.width(cluster));
-        let count = Cell::columns_for(cluster, width);
+        let count = columns_for(cluster, width);
         if end - at < count {
             return Ok(None);
         }

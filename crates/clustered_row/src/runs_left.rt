@@ -1,4 +1,4 @@
-//! Attributes of columns that an iteration has left.
+//! Attributes of the columns that an iteration has not passed yet.
 ghost use Rattle.std.specs.Prelude.{◌≡◌, ◌<◌, ◌≤◌, ◌∷◌, ◌++◌, true, length, drop, replicate, slice_index_or};
 ghost use Rattle.clustered_row.specs.Runs.{is_begun};
 ghost use Rattle.clustered_row.specs.Sizes.{width_of};

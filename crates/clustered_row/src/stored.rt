@@ -1,4 +1,4 @@
-//! What a row keeps.
+//! `StoredRow`: what a row stores, borrowed.
 ghost use Rattle.std.specs.Prelude.{◌≡◌, false, true, length};
 ghost use Rattle.clustered_row.specs.Faces.{row_of};
 ghost use Rattle.clustered_row.specs.Runs.{spread, AreMaximal};

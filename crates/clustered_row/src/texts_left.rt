@@ -1,4 +1,4 @@
-//! Texts of cells that an iteration has left.
+//! Texts of the cells that an iteration has not passed yet.
 ghost use Rattle.std.specs.Prelude.{◌≡◌, ◌≤◌, ◌++◌, ◌↔◌, true, false, [], length, take, drop, IsTrue, MatchOption};
 ghost use Rattle.std.specs.List.{list_all, prefix_len};
 ghost use Rattle.text_clusters.specs.Plain.{is_printable};

@@ -1,6 +1,7 @@
 //! The visible cells of a row.
 ghost use Rattle.std.specs.Prelude.{◌≡◌, ◌+◌, ◌<◌, ◌≤◌, ◌^◌, ◌++◌, false, length, take, drop};
 ghost use Rattle.cell_base.specs.CellContent.{shows_as_space};
+ghost use Rattle.cell_base.specs.WholeRow.{IsWhole};
 ghost use Rattle.clustered_row.specs.Faces.{row_of};
 ghost use Rattle.clustered_row.specs.Sizes.{width_of};
 ghost use Rattle.clustered_row.specs.VisibleColumns.{is_split};
@@ -124,11 +125,13 @@ impl Columns {
 impl ClusteredRow {
     ghost use Rattle.clustered_row.specs.VisibleCells.{row_left, next_column};
 
-    /// All visible cells, in the order of their columns.
+    /// All visible cells, in the order of their columns. `whole` is a law of rows: after the first column of a wide
+    /// cell comes its second one, with the same attributes, and there is no other second column.
     #[inline(always)]
     pub fn visible_cells(&self) -> ClusteredCells<'_>
         ensures row { row_left result ≡ self.now }
         ensures column { next_column result ≡ 0 }
+        ensures whole { IsWhole self.now }
     {
         let blanks = self.width - self.columns.len();
         let (texts, runs) = self.columns.left();

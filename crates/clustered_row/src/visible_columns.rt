@@ -1,6 +1,7 @@
 //! Queries on a row's columns.
 ghost use Rattle.std.specs.Prelude.{◌≡◌, ◌<◌, length, drop, slice_index_or, option_map};
 ghost use Rattle.cell_base.specs.Row.{blank};
+ghost use Rattle.cell_base.specs.WholeRow.{IsWhole};
 ghost use Rattle.cell_edits.specs.VisibleCells.{visible_cells, cell_at, ends_wrapped};
 ghost use Rattle.clustered_row.specs.Faces.{starts_right};
 ghost use Rattle.clustered_row.specs.VisibleCells.{shown_by};
@@ -62,9 +63,10 @@ impl Columns {
 }
 
 impl ClusteredRow {
-    /// Whether a column is the second one of a wide text.
+    /// Whether a column is the second one of a wide text. `whole` is the law of rows that `len` says.
     pub fn is_split(&self, column: usize) -> bool
-        ensures { result ≡ is_split column self.now }
+        ensures value { result ≡ is_split column self.now }
+        ensures whole { IsWhole self.now }
     {
         column < self.columns.len() && self.columns.is_split(column)
     }

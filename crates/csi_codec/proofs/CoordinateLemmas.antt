@@ -1,4 +1,4 @@
--- Steps from position to place of a list.
+-- Steps from position to position of a list.
 use Rattle.std.proofs.Common.{◌≡◌, ◌≢◌, ℕ, zero, suc, ◌+◌, ◌<◌, ◌≤◌, max, eqb, nat_lt, ◌||◌, Bool, true, false, cond, List, [], ◌∷◌, length, length-drop, drop, drop-drop, Option, Some, None, Result, option_map, zero-add, arith, refl, sym, ap, ◌∙◌, subst}
 use Rattle.std.proofs.lemmas.Bool.{cond_both}
 use Rattle.std.proofs.lemmas.Bool.Decides.{nat_tests}

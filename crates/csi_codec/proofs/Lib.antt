@@ -18,8 +18,8 @@ mod TextLemmas
 mod Written
 mod TextTrip
 pub mod TokenLemmas
-mod FrontLemmas
-pub mod FrontTrip
+mod PrefixLemmas
+pub mod PrefixTrip
 mod SizeLemmas
 mod LongestLemmas
 mod ColourLemmas

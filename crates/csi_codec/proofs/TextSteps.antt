@@ -49,8 +49,8 @@ first_put bytes len a b c room =
     take-set-le (len + 1) (with_two bytes len a b) (len + 2) c (omega arith) ∙ take-set-le (len + 1) (slice_set bytes len a) (len + 1) b (omega arith)
     ∙ take_more_set bytes len a (omega arith)
 
-front_put : (bytes : List ℕ) (len a b c : ℕ) → len + 3 ≤ length bytes → take (len + 2) (with_three bytes len a b c) ≡ take len bytes ++ a ∷ b ∷ []
-front_put bytes len a b c room = take-set-le (len + 2) (with_two bytes len a b) (len + 2) c (omega arith) ∙ two_put bytes len a b (omega arith)
+prefix_put : (bytes : List ℕ) (len a b c : ℕ) → len + 3 ≤ length bytes → take (len + 2) (with_three bytes len a b c) ≡ take len bytes ++ a ∷ b ∷ []
+prefix_put bytes len a b c room = take-set-le (len + 2) (with_two bytes len a b) (len + 2) c (omega arith) ∙ two_put bytes len a b (omega arith)
 
 -- ---- Characters
 
@@ -129,7 +129,7 @@ small_put bytes len n a b c room small h = by_order (cases_lt n 10) (cases_lt n 
         ap (λ k. take (len + k) (with_three bytes len a b c)) (one_long n l) ∙ first_put bytes len a b c room
         ∙ ap (λ it. take len bytes ++ it) (one_digit n a b c h l)
     by_order (inr g) (inl l) =
-        ap (λ k. take (len + k) (with_three bytes len a b c)) (two_long n g l) ∙ front_put bytes len a b c room
+        ap (λ k. take (len + k) (with_three bytes len a b c)) (two_long n g l) ∙ prefix_put bytes len a b c room
         ∙ ap (λ it. take len bytes ++ it) (two_digits n a b c h g l)
     by_order (inr _) (inr g) =
         ap (λ k. take (len + k) (with_three bytes len a b c)) (three_long n g (omega arith)) ∙ three_put bytes len a b c room
@@ -163,8 +163,8 @@ table_digits n h = digits_below 256 n refl h
 
 -- ---- Larger numbers
 
-pub after_front : (n : ℕ) → 10 ≤ n → n < 2 ^ 64 → length (decimal n) ≡ length (decimal (n / 10)) + 1
-after_front n low high = ap length (decimal_step n low high) ∙ length-append (decimal (n / 10)) ((48 + n % 10) ∷ [])
+pub after_prefix : (n : ℕ) → 10 ≤ n → n < 2 ^ 64 → length (decimal n) ≡ length (decimal (n / 10)) + 1
+after_prefix n low high = ap length (decimal_step n low high) ∙ length-append (decimal (n / 10)) ((48 + n % 10) ∷ [])
 
 pub digit_after : (old prefix new : List ℕ) (n : ℕ) → 10 ≤ n → n < 2 ^ 64 → prefix ≡ old ++ decimal (n / 10) → new ≡ prefix ++ (48 + n % 10) ∷ [] → new ≡ old ++ decimal n
 digit_after old prefix new n low high e f =
@@ -175,7 +175,7 @@ pub has_small_room : (old : List ℕ) (n : ℕ) → 0 < length (decimal n) → l
 has_small_room old n some room = omega arith
 
 pub has_last_room : (old prefix : List ℕ) (n : ℕ) → 10 ≤ n → n < 2 ^ 64 → prefix ≡ old ++ decimal (n / 10) → length old + length (decimal n) + 2 ≤ 32 → length prefix < 32
-has_last_room old prefix n low high e room = omega (arith, ap length e, length-append old (decimal (n / 10)), after_front n low high)
+has_last_room old prefix n low high e room = omega (arith, ap length e, length-append old (decimal (n / 10)), after_prefix n low high)
 
 -- ---- Sequences
 

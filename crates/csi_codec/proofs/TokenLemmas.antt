@@ -7,7 +7,7 @@ use Rattle.std.proofs.lemmas.Bool.{cases_lt}
 use Rattle.std.proofs.lemmas.List.{append-nil, length-take-le, take-append-le, take_all}
 use Rattle.std.proofs.Math.Seq.{take-length}
 use Rattle.csi_codec.specs.Texts.{largest_number, begun_token, tokens_after, tokens_of}
-use Rattle.csi_codec.specs.Fronts.{most_tokens}
+use Rattle.csi_codec.specs.Prefixes.{most_tokens}
 use Rattle.csi_codec.specs.Tokens.{Parameters, no_parameters, with_token, with_number, next_number, with_byte, parameters_of}
 use Rattle.csi_codec.specs.declared.parameters.CsiParam.{CsiParam}
 use Rattle.csi_codec.specs.declared.parameters.CsiParam.TheVariants.{Integer, P}

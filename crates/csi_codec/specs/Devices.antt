@@ -36,6 +36,6 @@ device_reading final ts = read_by device_lines final ts
 -- ---- Writing
 
 unfoldable pub device_spelling : Device → Spelled
-device_spelling SoftReset = spelled (P 33 ∷ []) 112  -- p
-device_spelling RequestPrimaryDeviceAttributes = spelled [] 99  -- c
-device_spelling StatusReport = spelled (number_tokens 5) 110  -- n
+device_spelling SoftReset = spelled (P 33 ∷ []) 112  -- p: DECSTR
+device_spelling RequestPrimaryDeviceAttributes = spelled [] 99  -- c: DA
+device_spelling StatusReport = spelled (number_tokens 5) 110  -- n: DSR 5

@@ -30,17 +30,17 @@ esc_code_bytes code.DecSaveCursorPosition = (None, 55)  -- 7: DECSC, xterm
 esc_code_bytes code.DecRestoreCursorPosition = (None, 56)  -- 8: DECRC, xterm
 esc_code_bytes code.DecApplicationKeyPad = (None, 61)  -- =: DECKPAM, xterm
 esc_code_bytes code.DecNormalKeyPad = (None, 62)  -- >: DECKPNM, xterm
-esc_code_bytes code.DecLineDrawingG0 = (Some 40, 48)  -- (0: xterm: Designate G0 Character Set
-esc_code_bytes code.UkCharacterSetG0 = (Some 40, 65)  -- (A: xterm: Designate G0 Character Set
-esc_code_bytes code.AsciiCharacterSetG0 = (Some 40, 66)  -- (B: xterm: Designate G0 Character Set
-esc_code_bytes code.DecLineDrawingG1 = (Some 41, 48)  -- )0: xterm: Designate G1 Character Set
-esc_code_bytes code.UkCharacterSetG1 = (Some 41, 65)  -- )A: xterm: Designate G1 Character Set
-esc_code_bytes code.AsciiCharacterSetG1 = (Some 41, 66)  -- )B: xterm: Designate G1 Character Set
-esc_code_bytes code.DecScreenAlignmentDisplay = (Some 35, 56)  -- #8: xterm: DEC line attributes and DECALN
-esc_code_bytes code.DecDoubleHeightTopHalfLine = (Some 35, 51)  -- #3: xterm: DEC line attributes and DECALN
-esc_code_bytes code.DecDoubleHeightBottomHalfLine = (Some 35, 52)  -- #4: xterm: DEC line attributes and DECALN
-esc_code_bytes code.DecSingleWidthLine = (Some 35, 53)  -- #5: xterm: DEC line attributes and DECALN
-esc_code_bytes code.DecDoubleWidthLine = (Some 35, 54)  -- #6: xterm: DEC line attributes and DECALN
+esc_code_bytes code.DecLineDrawingG0 = (Some 40, 48)  -- (0: SCS, xterm: Designate G0 Character Set
+esc_code_bytes code.UkCharacterSetG0 = (Some 40, 65)  -- (A: SCS, xterm: Designate G0 Character Set
+esc_code_bytes code.AsciiCharacterSetG0 = (Some 40, 66)  -- (B: SCS, xterm: Designate G0 Character Set
+esc_code_bytes code.DecLineDrawingG1 = (Some 41, 48)  -- )0: SCS, xterm: Designate G1 Character Set
+esc_code_bytes code.UkCharacterSetG1 = (Some 41, 65)  -- )A: SCS, xterm: Designate G1 Character Set
+esc_code_bytes code.AsciiCharacterSetG1 = (Some 41, 66)  -- )B: SCS, xterm: Designate G1 Character Set
+esc_code_bytes code.DecScreenAlignmentDisplay = (Some 35, 56)  -- #8: DECALN, xterm
+esc_code_bytes code.DecDoubleHeightTopHalfLine = (Some 35, 51)  -- #3: DECDHL, xterm
+esc_code_bytes code.DecDoubleHeightBottomHalfLine = (Some 35, 52)  -- #4: DECDHL, xterm
+esc_code_bytes code.DecSingleWidthLine = (Some 35, 53)  -- #5: DECSWL, xterm
+esc_code_bytes code.DecDoubleWidthLine = (Some 35, 54)  -- #6: DECDWL, xterm
 
 abbrev pub esc_codes : List EscCode
 esc_codes =

@@ -12,7 +12,7 @@ pub mod Sequences
 pub mod Parsing
 pub mod Laws
 pub mod Texts
-pub mod Fronts
+pub mod Prefixes
 pub mod Tokens
 pub mod Writable
 pub mod Sizes

@@ -43,7 +43,7 @@ abbrev pub byte_of : CsiParam → Option ℕ
 byte_of (Integer z) = number_within 255 z
 byte_of (P b) = None
 
--- the number at a place of the list, if it is one and 0 to 255
+-- the number at an index of the list, if it is one and 0 to 255
 abbrev pub byte_at : List CsiParam → ℕ → Option ℕ
 byte_at ts i = option_and_then byte_of (slice_get ts i)
 

@@ -3,7 +3,7 @@ use Rattle.std.specs.Prelude.{ℕ, pos, ◌+◌, ◌-◌, ◌*◌, min, Bool, tr
 use Rattle.std.specs.Prelude.{Option, Some, None, unwrap_or, is_some, length, take, fold, if◌then◌else◌}
 use Rattle.std.specs.Char.{is_ascii_digit}
 use Rattle.csi_codec.specs.Texts.{largest_number}
-use Rattle.csi_codec.specs.Fronts.{most_tokens}
+use Rattle.csi_codec.specs.Prefixes.{most_tokens}
 use Rattle.csi_codec.specs.declared.parameters.CsiParam.{CsiParam}
 use Rattle.csi_codec.specs.declared.parameters.CsiParam.TheVariants.{Integer, P}
 

@@ -1,5 +1,5 @@
 -- Values that can be written: what is written for them reads back as they are. The other values of these types are a
--- count or a place of 0, an alternate font past 9, and a mode by a number that has a name.
+-- count or a position of 0, an alternate font past 9, and a mode by a number that has a name.
 use Rattle.std.specs.Prelude.{◌≡◌, ℕ, ◌≤◌, ◌⊎◌, pos, Bool, Option, Some, None}
 use Rattle.cell_base.specs.declared.color.ColorSpec.{ColorSpec}
 use Rattle.cell_base.specs.declared.color.ColorSpec.TheVariants as color
@@ -21,7 +21,7 @@ use Rattle.csi_codec.specs.Modes.{dec_private_mode_named, terminal_mode_named}
 use Rattle.csi_codec.specs.Actions.{Action, sgr, cursor, edit, mode, device, unspecified, spelling_of}
 use Rattle.csi_codec.specs.Laws.{ReadsBack}
 use Rattle.csi_codec.specs.Sequences.{csi_text}
-use Rattle.csi_codec.specs.Fronts.{HasFront, whole_front}
+use Rattle.csi_codec.specs.Prefixes.{HasPrefix, whole_prefix}
 
 -- ---- Control sequences
 
@@ -90,5 +90,5 @@ abbrev pub WritableActionsReadBack : Type 0
 WritableActionsReadBack = (truncated : Bool) (a : Action) → IsWritable a → ReadsBack truncated a
 
 -- and its text is one sequence of them, with nothing after it
-abbrev pub WritableTextsAreFronts : Type 0
-WritableTextsAreFronts = (a : Action) → IsWritable a → HasFront (csi_text a) (whole_front (spelling_of a))
+abbrev pub WritableTextsAreSequences : Type 0
+WritableTextsAreSequences = (a : Action) → IsWritable a → HasPrefix (csi_text a) (whole_prefix (spelling_of a))

@@ -1,4 +1,4 @@
-//! A list as entries: numbers and absent ones.
+//! `Cracked`: a list of parameters as entries, each a number or absent.
 ghost use Rattle.std.specs.Prelude.{◌≡◌, ◌↔◌, IfOk, IsErrOf, IsTrue, false, length, ok_or, option_copied, slice_get};
 ghost use Rattle.std.specs.Option.{option_flatten};
 ghost use Rattle.csi_codec.specs.Cracked.{all_crackable, cracked, entries_of, entry_number};

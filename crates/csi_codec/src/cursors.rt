@@ -24,7 +24,7 @@ use crate::spelling::{
 use crate::text::SequenceText;
 use std::fmt;
 
-/// The look of the cursor (DECSCUSR of xterm's control sequences).
+/// The shape of the cursor, and whether it blinks (DECSCUSR of xterm's control sequences).
 #[derive(Clone, Copy, Debug, PartialEq, Eq, Default)]
 pub enum CursorStyle {
     #[default]
@@ -134,35 +134,62 @@ impl CursorTabulationControl {
     }
 }
 
-/// A cursor sequence. Counts and positions are `u32` or count from 1; the table of spellings names each standard.
+/// A cursor sequence, with ECMA-48's or xterm's mnemonic. A count that is read is at least 1; positions count from 1.
 #[derive(Clone, Copy, Debug, PartialEq, Eq)]
 pub enum Cursor {
+    /// CUU (CSI A): moves the cursor up by this many rows.
     Up(u32),
+    /// CUD (CSI B): moves the cursor down by this many rows.
     Down(u32),
+    /// CUF (CSI C): moves the cursor right by this many columns.
     Right(u32),
+    /// CUB (CSI D): moves the cursor left by this many columns.
     Left(u32),
+    /// CNL (CSI E): moves the cursor to the first column, this many rows down.
     NextLine(u32),
+    /// CPL (CSI F): moves the cursor to the first column, this many rows up.
     PrecedingLine(u32),
+    /// CHA (CSI G): moves the cursor to this column.
     CharacterAbsolute(OneBased),
+    /// HPA (CSI and a backquote): moves the cursor to this column.
     CharacterPositionAbsolute(OneBased),
+    /// VPA (CSI d): moves the cursor to this line.
     LinePositionAbsolute(u32),
+    /// HPR (CSI a): moves the cursor right by this many columns.
     CharacterPositionForward(u32),
+    /// HPB (CSI j): moves the cursor left by this many columns.
     CharacterPositionBackward(u32),
+    /// VPR (CSI e): moves the cursor down by this many rows.
     LinePositionForward(u32),
+    /// VPB (CSI k): moves the cursor up by this many rows.
     LinePositionBackward(u32),
+    /// CUP (CSI H): moves the cursor to this line and column.
     Position { line: OneBased, col: OneBased },
+    /// HVP (CSI f): moves the cursor to this line and column.
     CharacterAndLinePosition { line: OneBased, col: OneBased },
+    /// CPR (CSI R): reports the cursor's line and column.
     ActivePositionReport { line: OneBased, col: OneBased },
+    /// CHT (CSI I): moves the cursor forward by this many tab stops.
     ForwardTabulation(u32),
+    /// CBT (CSI Z): moves the cursor backward by this many tab stops.
     BackwardTabulation(u32),
+    /// CVT (CSI Y): moves the cursor down by this many line tab stops.
     LineTabulation(u32),
+    /// TBC (CSI g): clears tab stops.
     TabulationClear(TabulationClear),
+    /// CTC (CSI W): sets or clears tab stops.
     TabulationControl(CursorTabulationControl),
+    /// DECSTBM (CSI r): sets the top and the bottom margin.
     SetTopAndBottomMargins { top: OneBased, bottom: OneBased },
+    /// DECSLRM (CSI s with parameters): sets the left and the right margin.
     SetLeftAndRightMargins { left: OneBased, right: OneBased },
+    /// SCOSC (CSI s without parameters): saves the cursor.
     SaveCursor,
+    /// SCORC (CSI u): restores the saved cursor.
     RestoreCursor,
+    /// DSR 6 (CSI 6 n): requests a report of the cursor's position.
     RequestActivePositionReport,
+    /// DECSCUSR (CSI SP q): sets the shape of the cursor.
     CursorStyle(CursorStyle),
 }
 

@@ -1,4 +1,4 @@
-//! Requests to the terminal itself.
+//! Requests to the terminal itself: DECSTR, DA and DSR 5.
 ghost use Rattle.std.specs.Prelude.{◌≡◌, Some};
 ghost use Rattle.csi_codec.specs.Devices.{device_reading, device_spelling};
 ghost use Rattle.csi_codec.specs.Parameters.{sequence_text, spelled_text};
@@ -11,8 +11,11 @@ use std::fmt;
 /// A request to the terminal itself.
 #[derive(Clone, Copy, Debug, PartialEq, Eq)]
 pub enum Device {
+    /// DECSTR (CSI ! p): resets modes and attributes.
     SoftReset,
+    /// DA (CSI c): requests the primary device attributes.
     RequestPrimaryDeviceAttributes,
+    /// DSR 5 (CSI 5 n): requests a report of the terminal's status.
     StatusReport,
 }
 

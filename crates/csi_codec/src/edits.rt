@@ -18,8 +18,11 @@ use std::fmt;
 /// How much of its line EL erases (ECMA-48 8.3.41).
 #[derive(Clone, Copy, Debug, PartialEq, Eq)]
 pub enum EraseInLine {
+    /// EL 0: from the cursor to the end of the line.
     EraseToEndOfLine = 0,
+    /// EL 1: from the start of the line to the cursor.
     EraseToStartOfLine = 1,
+    /// EL 2: the whole line.
     EraseLine = 2,
 }
 
@@ -47,9 +50,13 @@ impl EraseInLine {
 /// How much of the display ED erases (ECMA-48 8.3.39; 3 is xterm's).
 #[derive(Clone, Copy, Debug, PartialEq, Eq)]
 pub enum EraseInDisplay {
+    /// ED 0: from the cursor to the end of the display.
     EraseToEndOfDisplay = 0,
+    /// ED 1: from the start of the display to the cursor.
     EraseToStartOfDisplay = 1,
+    /// ED 2: the whole display.
     EraseDisplay = 2,
+    /// ED 3: the lines that have scrolled off the display.
     EraseScrollback = 3,
 }
 
@@ -78,15 +85,25 @@ impl EraseInDisplay {
 /// An edit of what is shown. Counts are of characters, lines or rows.
 #[derive(Clone, Copy, Debug, PartialEq, Eq)]
 pub enum Edit {
+    /// ICH (CSI @): inserts this many blank characters at the cursor.
     InsertCharacter(u32),
+    /// DCH (CSI P): deletes this many characters from the cursor on.
     DeleteCharacter(u32),
+    /// IL (CSI L): inserts this many blank lines at the cursor's line.
     InsertLine(u32),
+    /// DL (CSI M): deletes this many lines from the cursor's line on.
     DeleteLine(u32),
+    /// ECH (CSI X): erases this many characters from the cursor on.
     EraseCharacter(u32),
+    /// SU (CSI S): scrolls up by this many rows.
     ScrollUp(u32),
+    /// SD (CSI T): scrolls down by this many rows.
     ScrollDown(u32),
+    /// REP (CSI b): repeats the preceding character this many times.
     Repeat(u32),
+    /// ED (CSI J): erases part of the display, or all of it.
     EraseInDisplay(EraseInDisplay),
+    /// EL (CSI K): erases part of the cursor's line, or all of it.
     EraseInLine(EraseInLine),
 }
 

@@ -9,37 +9,69 @@ use std::fmt;
 /// An ESC pair that has a name (ECMA-48 5.3 and xterm's control sequences).
 #[derive(Clone, Copy, Debug, PartialEq, Eq)]
 pub enum EscCode {
+    /// RIS (ESC c): resets the terminal.
     FullReset,
+    /// IND (ESC D): moves the cursor to the next row, and scrolls at the last one.
     Index,
+    /// NEL (ESC E): moves the cursor to the first column of the next row, and scrolls at the last one.
     NextLine,
+    /// ESC F: moves the cursor to the lower left corner.
     CursorPositionLowerLeft,
+    /// HTS (ESC H): sets a tab stop at the cursor's column.
     HorizontalTabSet,
+    /// RI (ESC M): moves the cursor to the row above, and scrolls at the first one.
     ReverseIndex,
+    /// SS2 (ESC N): takes the next character from G2.
     SingleShiftG2,
+    /// SS3 (ESC O): takes the next character from G3.
     SingleShiftG3,
+    /// SPA (ESC V): begins a guarded area.
     StartOfGuardedArea,
+    /// EPA (ESC W): ends a guarded area.
     EndOfGuardedArea,
+    /// SOS (ESC X): begins a string.
     StartOfString,
+    /// DECID (ESC Z): requests the terminal's identity.
     ReturnTerminalId,
+    /// ST (ESC and a backslash): ends a string.
     StringTerminator,
+    /// PM (ESC ^): begins a privacy message.
     PrivacyMessage,
+    /// APC (ESC _): begins an application program command.
     ApplicationProgramCommand,
+    /// ESC k: begins a title of tmux and screen.
     TmuxTitle,
+    /// DECBI (ESC 6): moves the cursor left, and scrolls at the first column.
     DecBackIndex,
+    /// DECSC (ESC 7): saves the cursor.
     DecSaveCursorPosition,
+    /// DECRC (ESC 8): restores the saved cursor.
     DecRestoreCursorPosition,
+    /// DECKPAM (ESC =): the keypad sends application sequences.
     DecApplicationKeyPad,
+    /// DECKPNM (ESC >): the keypad sends characters.
     DecNormalKeyPad,
+    /// SCS (ESC ( 0): makes DEC's line drawing characters G0.
     DecLineDrawingG0,
+    /// SCS (ESC ( A): makes the UK character set G0.
     UkCharacterSetG0,
+    /// SCS (ESC ( B): makes ASCII G0.
     AsciiCharacterSetG0,
+    /// SCS (ESC ) 0): makes DEC's line drawing characters G1.
     DecLineDrawingG1,
+    /// SCS (ESC ) A): makes the UK character set G1.
     UkCharacterSetG1,
+    /// SCS (ESC ) B): makes ASCII G1.
     AsciiCharacterSetG1,
+    /// DECALN (ESC # 8): fills the screen with `E`.
     DecScreenAlignmentDisplay,
+    /// DECDHL (ESC # 3): the cursor's line is the top half of a line of double height.
     DecDoubleHeightTopHalfLine,
+    /// DECDHL (ESC # 4): the cursor's line is the bottom half of a line of double height.
     DecDoubleHeightBottomHalfLine,
+    /// DECSWL (ESC # 5): the cursor's line has single width.
     DecSingleWidthLine,
+    /// DECDWL (ESC # 6): the cursor's line has double width.
     DecDoubleWidthLine,
 }
 

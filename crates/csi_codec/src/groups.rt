@@ -1,4 +1,4 @@
-//! Groups of lists: what they can be, and those of modes.
+//! Groups of parameters: the kinds of lists, and the group of a mode.
 ghost use Rattle.std.specs.Prelude.{◌≡◌, option_map};
 ghost use Rattle.csi_codec.specs.Actions.{all_sgr_tokens, found_mode, group_of};
 ghost use Rattle.csi_codec.specs.Parsing.{kind_of};

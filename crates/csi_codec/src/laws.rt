@@ -1,9 +1,9 @@
 //! Laws of the readings, as functions that do nothing and ensure them.
-ghost use Rattle.csi_codec.specs.Fronts.{OneFront, TextsAreFronts};
+ghost use Rattle.csi_codec.specs.Prefixes.{OnePrefix, TextsAreSequences};
 ghost use Rattle.csi_codec.specs.Laws.{ActionsReadBack, SgrListsJoin};
 ghost use Rattle.csi_codec.specs.Longest.{LongestShapeDecides};
 ghost use Rattle.csi_codec.specs.Sizes.{ActionsAreShort};
-ghost use Rattle.csi_codec.specs.Writable.{WritableActionsReadBack, WritableTextsAreFronts};
+ghost use Rattle.csi_codec.specs.Writable.{WritableActionsReadBack, WritableTextsAreSequences};
 
 /// The actions of an SGR list, a `;` and a second list are the actions of the first list and then those of the second,
 /// where the first is wholly known and does not end in `;`.
@@ -19,15 +19,15 @@ pub fn actions_read_back()
 {}
 
 /// At most one sequence is a prefix of given bytes.
-pub fn one_front()
-    ensures { OneFront }
+pub fn one_prefix()
+    ensures { OnePrefix }
 {}
 
 /// The text of an action is one sequence and nothing after it, and spells the parameters and the final byte that are
 /// written for the action: so it is for each action of a spellable list of at most 256 tokens with a final byte from
 /// `@` to `~`.
-pub fn texts_are_fronts()
-    ensures { TextsAreFronts }
+pub fn texts_are_sequences()
+    ensures { TextsAreSequences }
 {}
 
 /// An action that can be written is the one action of the parameters and the final byte that are written for it, under
@@ -37,7 +37,7 @@ pub fn texts_are_fronts()
 /// how a reader reads it.
 pub fn writable_actions_read_back()
     ensures action { WritableActionsReadBack }
-    ensures text { WritableTextsAreFronts }
+    ensures text { WritableTextsAreSequences }
 {}
 
 /// The text of an action that can be written has at most 24 bytes: as many as an SGR (`ESC [38:6::255:255:255:255m`)

@@ -1,4 +1,4 @@
-//! Reading the actions of a list from position to position.
+//! `ParamCursor`: reads the actions of a parameter list, one at a time.
 ghost use Rattle.std.specs.Prelude.{◌≡◌, ◌≢◌, ◌<◌, ◌≤◌, ℕ, Bool, true, false, IfNone, IfSome, ◌∷◌, [], drop, length};
 ghost use Rattle.std.specs.Prelude.{max};
 ghost use Rattle.csi_codec.specs.Actions.{single_or, modes_or, sgr, unspecified};
@@ -15,8 +15,8 @@ use crate::sequences::{CSI, request, unspecified};
 use crate::sgr_reading::sgr_group;
 use std::alloc::{AllocError, Global};
 
-/// A place in a list of parameters before a final byte: how far its actions were read. It lends nothing, so it can be
-/// kept beside the list that it is a position in.
+/// A cursor in a list of parameters before a final byte: how far its actions were read. It borrows nothing, so it can
+/// be kept beside the list.
 #[derive(Clone, Copy, Debug, PartialEq, Eq)]
 pub struct ParamCursor {
     index: usize,
@@ -31,7 +31,7 @@ impl ParamCursor {
         ParamCursor { index: 0 }
     }
 
-    /// The action at this place of a list, with the list's flag and final byte, which must be the same at each call.
+    /// The action at this position of a list, with the list's flag and final byte, which must be the same at each call.
     /// It goes on to the next position. After a refusal of memory, and after the last action, it answers `None`.
     #[inline(always)]
     pub fn next(
@@ -79,7 +79,7 @@ impl ParamCursor {
         read >= params.len()
     }
 
-    /// The setting at this place of an SGR list, or else all that is left.
+    /// The setting at this position of an SGR list, or else all that is left.
     #[inline(always)]
     fn setting(
         &mut self,
@@ -100,7 +100,7 @@ impl ParamCursor {
         }
     }
 
-    /// The mode at this place of a list of modes after the first `start` tokens, or else all that is left.
+    /// The mode at this position of a list of modes after the first `start` tokens, or else all that is left.
     #[inline(always)]
     fn mode(
         &mut self,

@@ -1,4 +1,4 @@
-//! SGR: what is written for it.
+//! SGR: writing a setting.
 ghost use Rattle.std.specs.Prelude.{◌≡◌, ◌≤◌, ◌∷◌, [], length};
 ghost use Rattle.csi_codec.specs.Parameters.{sequence_text, spelled};
 ghost use Rattle.csi_codec.specs.declared.parameters.CsiParam.TheVariants.{P};

@@ -6,12 +6,12 @@ use Rattle.std.specs.List.{prefix_len, list_all}
 use Rattle.std.proofs.lemmas.List.Folds.{length-prefix_len}
 use Rattle.std.proofs.lemmas.List.Sums.{prefix_len-le-length}
 use Rattle.escape_framing.specs.Bytes.{is_stop, is_embedded, is_intermediate, is_cut, is_opener}
-use Rattle.escape_framing.specs.Held.{InEscape, Held, command_step, escape_step, opened, fresh_step, held_step, nothing_held, hand_out}
+use Rattle.escape_framing.specs.Held.{InEscape, Held, TakesMemory, command_step, escape_step, opened, fresh_step, held_step, nothing_held, hand_out}
 use Rattle.escape_framing.specs.Framed.{Single, framed_after, no_text, IsReached, IsCarried, Frames}
 use Rattle.escape_framing.specs.Prefixes.{is_body_byte}
 use Rattle.escape_framing.specs.Lending.{Lending}
 use Rattle.escape_framing.specs.Event.{handed_out}
-use Rattle.escape_framing.specs.Read.{whole_command, ReadsEvent, TakesMemoryAt}
+use Rattle.escape_framing.specs.Read.{whole_command, ReadsEvent, TakesMemoryAt, held_after}
 use Rattle.escape_framing.specs.declared.event.Event.{Event}
 use Rattle.escape_framing.specs.declared.event.Event.TheVariants as event
 use Rattle.escape_framing.specs.declared.event.Read.TheVariants as read
@@ -30,7 +30,12 @@ reads_after old bytes n m e mid l reached z a b = record {
   moves = λ x y. absurd (let k : n + m ≡ 0 = x in omega (arith, z, k));
   opens = λ r k t.
       let q : n + (m + k) ≡ n + m + k = omega arith in
-      subst (TakesMemoryAt old bytes) q (a.opens r (m + k) (b.opens reached k (subst (λ (x : List ℕ). TakesMemoryAt l.held x k) (sym (drop-drop m n bytes)) t)));
+      let d = sym (drop-drop m n bytes) in
+      let second = b.opens reached k (subst (λ (x : List ℕ). TakesMemoryAt l.held x k) d t) in
+      ap (λ (x : List ℕ). held_after l.held x k) d
+      ∙ second
+      ∙ a.opens r (m + k) (subst (λ (h : Held). TakesMemory h.kept) second (subst (λ (x : List ℕ). TakesMemoryAt l.held x k) d t))
+      ∙ ap (held_after old bytes) q;
 }
   where
     both : (count : ℕ) → Frames count old bytes (λ from. []) n mid.held → Frames count old bytes (λ from. map Single (handed_out l e)) (n + m) l.held

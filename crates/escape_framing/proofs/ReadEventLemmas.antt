@@ -13,7 +13,7 @@ use Rattle.escape_framing.specs.Framed.{Text, Single, framed, at_offset, placed_
 use Rattle.escape_framing.specs.Prefixes.{IsLastAt}
 use Rattle.escape_framing.specs.Lending.{Lending}
 use Rattle.escape_framing.specs.Event.{handed_out, held_resumed, rank, IsAlone, IsHeldLeft}
-use Rattle.escape_framing.specs.Read.{ReadsEvent, TakesMemoryAt}
+use Rattle.escape_framing.specs.Read.{ReadsEvent, TakesMemoryAt, held_after}
 use Rattle.escape_framing.specs.FramerView.{kept_as}
 use Rattle.escape_framing.specs.declared.states.State.{State}
 use Rattle.escape_framing.specs.declared.states.State.TheVariants as state
@@ -166,7 +166,7 @@ reads_broken_event old b n rest bytes l is t begun k z e = subst (λ (m : List �
   within = omega arith;
   text = no_text;
   moves = λ x y. subst (λ (h : Held). rank h < rank old) (sym e) (begun_rank old.kept old.waiting begun);
-  opens = λ r. subst (λ (h : Held). (m : ℕ) → TakesMemoryAt h (b ∷ rest) m → TakesMemoryAt old (b ∷ rest) (0 + m)) (sym e)
+  opens = λ r. subst (λ (h : Held). (m : ℕ) → TakesMemoryAt h (b ∷ rest) m → held_after h (b ∷ rest) m ≡ held_after old (b ∷ rest) (0 + m)) (sym e)
       (opens_left old nothing_held b rest (broken_same n old b rest r t begun (subst (λ (m : List ℕ). IsTextLen m n) is k) z) (λ x. x));
 })
 

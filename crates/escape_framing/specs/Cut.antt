@@ -11,7 +11,7 @@ use Rattle.escape_framing.specs.Decode.{Reading, read_on}
 unfoldable pub the_cut : List ℕ → Reading
 the_cut stream = read_on (Begun []) (seven_bit stream)
 
--- what others may still make a segment of
+-- the bytes at the end that later bytes may still make a segment of
 abbrev pub tail_of : List ℕ → Tail
 tail_of stream = (the_cut stream).tail
 

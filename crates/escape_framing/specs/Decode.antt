@@ -23,7 +23,7 @@ waits tail = record { segments = []; tail = tail }
 abbrev pub ends : Segment → Reading
 ends segment = record { segments = segment ∷ []; tail = Begun [] }
 
--- the segment ends before the byte, of which others are read
+-- the segment ends before the byte, from which the rest is read
 abbrev pub ends_before : Segment → Reading → Reading
 ends_before segment first = record { segments = segment ∷ first.segments; tail = first.tail }
 

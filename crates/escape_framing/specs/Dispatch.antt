@@ -6,7 +6,7 @@ use Rattle.escape_framing.specs.Segment.{Tail, Begun, OpenEscape, OpenControlSeq
 use Rattle.escape_framing.specs.Segment.{OpenDevice, OpenString, Segment}
 use Rattle.escape_framing.specs.Segment as segment
 use Rattle.csi_codec.specs.Texts.{tokens_of}
-use Rattle.csi_codec.specs.Fronts.{most_tokens}
+use Rattle.csi_codec.specs.Prefixes.{most_tokens}
 use Rattle.csi_codec.specs.declared.parameters.CsiParam.{CsiParam}
 
 -- a character to print; a control; an escape sequence by its intermediate byte, where it has one, and its final byte; a

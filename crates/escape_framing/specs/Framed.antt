@@ -18,14 +18,14 @@ pub data Framed : Type 0 where
 abbrev pub is_lent : ℕ → ℕ → ℕ → Bool
 is_lent start offset c = not (c == 0xFFFD) && nat_le (start + length (encode_utf8 c)) offset
 
--- a text before others: one with the text that begins where it ends
+-- a text before the rest: one with a text that begins where it ends
 abbrev pub put_text : ℕ → List ℕ → List Framed → List Framed
 put_text from text [] = Text from text ∷ []
 put_text from text (Single d ∷ rest) = Text from text ∷ Single d ∷ rest
 put_text from text (Text next more ∷ rest) =
     if next == from + length text then Text from (text ++ more) ∷ rest else Text from text ∷ Text next more ∷ rest
 
--- a character that has its place before others
+-- a character before the rest
 abbrev pub put_character : ℕ → ℕ → ℕ → List Framed → List Framed
 put_character start offset c rest =
     if is_lent start offset c then put_text (offset - length (encode_utf8 c)) (encode_utf8 c) rest
@@ -47,7 +47,7 @@ abbrev pub framed : ℕ → List (ℕ × Dispatch) → List Framed
 framed start [] = []
 framed start (p ∷ placed) = put_dispatch start p.0 p.1 (framed start placed)
 
--- dispatches at one position
+-- dispatches at one offset
 abbrev pub at_offset : ℕ → List Dispatch → List (ℕ × Dispatch)
 at_offset offset dispatches = map (λ d. (offset, d)) dispatches
 
@@ -79,7 +79,7 @@ kept_takes (InHeader header) waiting b = waiting || nat_le 0x80 b
 kept_takes InDevice waiting b = false
 kept_takes InString waiting b = false
 
--- the items of bytes after `count` others, of which `held` is held, in a call whose bytes begin at `start`
+-- the items of the bytes that follow the first `count`, of which `held` is held, in a call whose bytes begin at `start`
 abbrev pub framed_after : ℕ → ℕ → Held → List ℕ → List Framed
 framed_after start count held bytes = framed start (placed_after count held bytes)
 

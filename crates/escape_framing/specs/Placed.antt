@@ -4,7 +4,7 @@ use Rattle.std.specs.List.{slice_get}
 use Rattle.escape_framing.specs.Dispatch.{Dispatch}
 use Rattle.escape_framing.specs.Cut.{dispatches, newly_decided}
 
--- The first bytes of the stream, as many as the position says, decide the dispatch at the index, and fewer don't.
+-- The first `offset` bytes of the stream decide the dispatch at the index, and fewer don't.
 pub record IsPlaced (stream : List ℕ) (index offset : ℕ) (dispatch : Dispatch) : Type 0 where
   -- the stream has at least `offset` bytes
   pub within : offset ≤ length stream
@@ -14,7 +14,7 @@ pub record IsPlaced (stream : List ℕ) (index offset : ℕ) (dispatch : Dispatc
   pub least : (fewer : ℕ) → fewer < offset
       → ((more : List ℕ) → slice_get (dispatches (take fewer stream ++ more)) index ≡ Some dispatch) → ⊥
 
--- the placed dispatches of the bytes, after others: what a byte decides has its place after that byte
+-- the placed dispatches of the bytes, after a prefix: the offset of what a byte decides is that after the byte
 abbrev pub placed_from : List ℕ → List ℕ → List (ℕ × Dispatch)
 placed_from prefix [] = []
 placed_from prefix (b ∷ bytes) =

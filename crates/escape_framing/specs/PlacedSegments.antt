@@ -1,4 +1,4 @@
--- The segments of a stream with their places.
+-- The segments of a stream with their offsets.
 use Rattle.std.specs.Prelude.{ℕ, ◌+◌, ◌≤◌, List, [], ◌∷◌, length, Contains}
 use Rattle.escape_framing.specs.Segment.{Segment, bytes_of}
 use Rattle.escape_framing.specs.Cut.{the_cut}
@@ -13,7 +13,7 @@ segments_from count (segment ∷ segments) = (count, segment) ∷ segments_from 
 abbrev pub placed_segments : List ℕ → List (ℕ × Segment)
 placed_segments stream = segments_from 0 (the_cut stream).segments
 
--- the segment is one of the stream's, and lies after the first position and before the second
+-- the segment is one of the stream's, and lies between two offsets
 pub record LiesBetween (stream : List ℕ) (from to : ℕ) (segment : Segment) : Type 0 where
   pub offset : ℕ
   pub stands : Contains (placed_segments stream) (offset, segment)

@@ -30,13 +30,17 @@ whole_sequence final n = read.Bytes (Some (event.ControlSequence final)) n
 abbrev pub whole_command : ℕ → Read
 whole_command n = read.Bytes (Some event.OperatingSystemCommand) n
 
+-- what is held after the first n bytes
+abbrev pub held_after : Held → List ℕ → ℕ → Held
+held_after held bytes n = (hand_out held (take n bytes)).held
+
 -- after the first n bytes the body of a command or a header is read, which takes memory
 abbrev pub TakesMemoryAt : Held → List ℕ → ℕ → Type 0
-TakesMemoryAt held bytes n = TakesMemory (hand_out held (take n bytes)).held.kept
+TakesMemoryAt held bytes n = TakesMemory (held_after held bytes n).kept
 
 -- Of the bytes, after what was held, this has been read, and now the framer shows this.
 pub record ReadsEvent (held : Held) (bytes : List ℕ) (r : Read) (after : Lending) : Type 0 where
-  -- in a call that holds these bytes, with `count` others of it read
+  -- in a call that holds these bytes, after `count` bytes of it were read
   pub frames : (count : ℕ) → IsReached held → IsCarried 0 count held bytes
       → Frames count held bytes (items_of after r bytes) (count_of r) after.held
   -- at most all of the bytes were read, and those read as a text are one
@@ -44,6 +48,6 @@ pub record ReadsEvent (held : Held) (bytes : List ℕ) (r : Read) (after : Lendi
   pub text : IsText (take (text_of r) bytes)
   -- where none of some bytes is read, something was closed for them, which can't go on: the rank is at most 3
   pub moves : count_of r ≡ 0 → 0 < length bytes → rank after.held < rank held
-  -- where a body or a header is read after these and some more bytes, it is so after what was held
+  -- where a body or a header is read after these and some more bytes, it is held after all of them
   pub opens : IsReached held → (m : ℕ) → TakesMemoryAt after.held (drop (count_of r) bytes) m
-      → TakesMemoryAt held bytes (count_of r + m)
+      → held_after after.held (drop (count_of r) bytes) m ≡ held_after held bytes (count_of r + m)

@@ -1,4 +1,4 @@
-//! The literal bytes of bodies.
+//! Bodies of commands and strings: how many bytes at the start are literal.
 ghost use Rattle.std.specs.Prelude.{◌≡◌, take};
 ghost use Rattle.std.specs.List.{prefix_len};
 ghost use Rattle.escape_framing.specs.Prefixes.{is_body_byte as in_bodies, is_string_byte as in_strings};

@@ -1,4 +1,4 @@
-//! The characters of a stream, byte by byte.
+//! The first bytes of a character in UTF-8, and the byte after them.
 ghost use Rattle.std.specs.Prelude.{◌≡◌, ◌↔◌, IsTrue, IfSome, ℕ, ◌+◌, ◌≤◌, List, [], ◌∷◌, None, take};
 ghost use Rattle.escape_framing.specs.Segment.{IsUnfinished, Begun};
 ghost use Rattle.escape_framing.specs.Held.{InCharacter, character_step};

@@ -1,4 +1,4 @@
-//! The framer: from bytes to events, one at a time.
+//! `Framer`: reads the bytes of a call as events: texts, runs, whole control sequences or single bytes.
 ghost use Rattle.std.specs.Prelude.{◌≡◌, ◌≢◌, ◌↔◌, ◌<◌, ℕ, true, false, IsTrue, List, [], ◌∷◌};
 ghost use Rattle.std.specs.Prelude.{IfOk, IfSome, OnErr, Some, None};
 ghost use Rattle.text_clusters.specs.Controls.{is_c1 as in_c1s};
@@ -22,7 +22,7 @@ use std::alloc::{AllocError, Global};
 use std::marker::Model;
 use text_clusters::is_c1;
 
-/// Reads a stream of bytes, in any pieces, and hands out one event at a time, as soon as the bytes decide it. It keeps
+/// Reads a stream of bytes, in any chunks, and hands out one event at a time, as soon as the bytes decide it. It keeps
 /// only what is unfinished, and lends the parameters or the body of the last event until the next call.
 #[derive(Drop)]
 pub struct Framer {

@@ -1,4 +1,4 @@
-//! Laws of the definitions: a stream has one cut, each dispatch has its place, and pieces join.
+//! Laws of the definitions: a stream has one cut, each dispatch has its offset, and chunks join.
 ghost use Rattle.std.specs.Prelude.{◌≡◌, ◌≢◌, ◌+◌, ℕ, Some, List, [], ◌∷◌, ◌++◌, length, map, take, drop};
 ghost use Rattle.std.specs.List.{slice_get};
 ghost use Rattle.escape_framing.specs.SevenBit.{seven_bit};
@@ -34,8 +34,8 @@ pub fn offsets()
     ensures all { (stream : List ℕ) → map (λ (p : ℕ × Dispatch). p.1) (placed_dispatches stream) ≡ dispatches stream }
 {}
 
-/// A law, which needs no call: pieces decide what their concatenation decides, in the same order.
-pub fn pieces_join()
+/// A law, which needs no call: chunks decide what their concatenation decides, in the same order.
+pub fn chunks_join()
     ensures { (stream x y : List ℕ)
         → newly_decided stream (x ++ y) ≡ newly_decided stream x ++ newly_decided (stream ++ x) y }
 {}

@@ -9,9 +9,9 @@ use Rattle.std.proofs.lemmas.Bool.{and_parts, cases_Bool, or_parts}
 use Rattle.std.proofs.lemmas.List.Splits.{join_with_byte-slice_split}
 use Rattle.cell_base.specs.Link.{Link, Param}
 use Rattle.cell_base.specs.declared.link_error.LinkError.{LinkError}
-use Rattle.cell_base.specs.LinkText.{param_text, params_text, link_text, text_of_link, pieces, is_param, param_of, by_key, param_pieces, params_of, texts_reading, link_reading}
+use Rattle.cell_base.specs.LinkText.{param_text, params_text, link_text, text_of_link, fields, is_param, param_of, by_key, param_fields, params_of, texts_reading, link_reading}
 use Rattle.cell_base.proofs.KeyOrder.{fold_each}
-use Rattle.cell_base.proofs.Pieces.{cut_joined}
+use Rattle.cell_base.proofs.Fields.{cut_joined}
 
 module _ (P : ℕ → Type 0) where
   abbrev pub Each : List ℕ → Type 0
@@ -59,22 +59,22 @@ module _ (P : ℕ → Type 0) where
     param_texts [] h = tt
     param_texts (p ∷ params) h = (each-append p.0 (61 ∷ p.1) h.0.0 (equals, h.0.1), param_texts params h.1)
 
-    pieces_text : (texts : List (List ℕ)) → list_all is_param texts ≡ true → EachText texts → Each (params_text (by_key (map param_of texts)))
-    pieces_text texts are h =
+    fields_text : (texts : List (List ℕ)) → list_all is_param texts ≡ true → EachText texts → Each (params_text (by_key (map param_of texts)))
+    fields_text texts are h =
         joined_each 58 (map param_text (by_key (map param_of texts))) colon
         (param_texts _ (fold_each (slice_cmp nat_cmp) Each Each (map param_of texts) [] (params_cut texts are h) tt))
 
-    colon_pieces : (text : List ℕ) → Each text → EachText (pieces 58 text)
-    colon_pieces text h = each_joined 58 (pieces 58 text) (subst Each (sym (join_with_byte-slice_split 58 text)) h)
+    colon_fields : (text : List ℕ) → Each text → EachText (fields 58 text)
+    colon_fields text h = each_joined 58 (fields 58 text) (subst Each (sym (join_with_byte-slice_split 58 text)) h)
 
-    params_each : (text : List ℕ) → list_all is_param (param_pieces text) ≡ true → Each text → Each (params_text (params_of text))
+    params_each : (text : List ℕ) → list_all is_param (param_fields text) ≡ true → Each text → Each (params_text (params_of text))
     params_each text are h = elim (cases_Bool (length text == 0)) [
       | inl empty ↦
-          let e : param_pieces text ≡ [] = rw empty refl in
-          rw e (pieces_text [] refl tt)
+          let e : param_fields text ≡ [] = rw empty refl in
+          rw e (fields_text [] refl tt)
       | inr some ↦
-          let e : param_pieces text ≡ pieces 58 text = rw some refl in
-          rw e (pieces_text (pieces 58 text) (rw e at are) (colon_pieces text h))
+          let e : param_fields text ≡ fields 58 text = rw some refl in
+          rw e (fields_text (fields 58 text) (rw e at are) (colon_fields text h))
     ]
 
     same_Ok : (a b : Option Link) → ◌≡◌ {A = Result (Option Link) LinkError} (Ok a) (Ok b) → a ≡ b
@@ -87,7 +87,7 @@ module _ (P : ℕ → Type 0) where
           let e : None ≡ link = same_Ok _ _ (rw empty at is) in
           rw (← e) (eight, (semicolon, (semicolon, tt)))
       | inr some ↦ elim (cases_Bool (is_utf8 params && is_utf8 uri)) [
-        | inl text ↦ elim (cases_Bool (list_all is_param (param_pieces params))) [
+        | inl text ↦ elim (cases_Bool (list_all is_param (param_fields params))) [
           | inl are ↦
               let l : Link = record { params = params_of params; uri = uri; implicit = false } in
               let e : Some l ≡ link = same_Ok _ _ (rw (some, text, are) at is) in

@@ -11,9 +11,9 @@ use Rattle.std.proofs.lemmas.List.Splits.{join_with_byte-slice_split}
 use Rattle.text_clusters.specs.Controls.{is_c1, holds_c1}
 use Rattle.cell_base.specs.Link.{Link, Param}
 use Rattle.cell_base.specs.declared.link_error.LinkError.{LinkError}
-use Rattle.cell_base.specs.LinkText.{param_text, params_text, link_text, text_of_link, pieces, is_param, param_of, by_key, param_pieces, params_of, texts_reading, link_reading}
+use Rattle.cell_base.specs.LinkText.{param_text, params_text, link_text, text_of_link, fields, is_param, param_of, by_key, param_fields, params_of, texts_reading, link_reading}
 use Rattle.cell_base.proofs.KeyOrder.{fold_each}
-use Rattle.cell_base.proofs.Pieces.{cut_joined}
+use Rattle.cell_base.proofs.Fields.{cut_joined}
 use Rattle.escape_osc.specs.Parts.{any_holds_c1}
 
 -- no byte below 80 is part of a C1 control
@@ -82,22 +82,22 @@ param_texts : (params : List Param) → AllByRecursion (λ p. LacksC1 p.0 × Lac
 param_texts [] h = tt
 param_texts (p ∷ params) h = (holds_c1-joint p.0 61 p.1 (omega arith) ∙ or_from (holds_c1 p.0) (holds_c1 p.1) h.0.0 h.0.1, param_texts params h.1)
 
-pieces_text : (texts : List (List ℕ)) → list_all is_param texts ≡ true → AllByRecursion LacksC1 texts → LacksC1 (params_text (by_key (map param_of texts)))
-pieces_text texts are h =
+fields_text : (texts : List (List ℕ)) → list_all is_param texts ≡ true → AllByRecursion LacksC1 texts → LacksC1 (params_text (by_key (map param_of texts)))
+fields_text texts are h =
     sym (any_holds_c1-joined 58 (map param_text (by_key (map param_of texts))) (omega arith))
     ∙ any_lacks_c1 _ (param_texts _ (fold_each (slice_cmp nat_cmp) LacksC1 LacksC1 (map param_of texts) [] (params_cut texts are h) tt))
 
-colon_pieces : (text : List ℕ) → LacksC1 text → AllByRecursion LacksC1 (pieces 58 text)
-colon_pieces text h = each_lacks_c1 (pieces 58 text) (any_holds_c1-joined 58 (pieces 58 text) (omega arith) ∙ ap holds_c1 (join_with_byte-slice_split 58 text) ∙ h)
+colon_fields : (text : List ℕ) → LacksC1 text → AllByRecursion LacksC1 (fields 58 text)
+colon_fields text h = each_lacks_c1 (fields 58 text) (any_holds_c1-joined 58 (fields 58 text) (omega arith) ∙ ap holds_c1 (join_with_byte-slice_split 58 text) ∙ h)
 
-params_lack_c1 : (text : List ℕ) → list_all is_param (param_pieces text) ≡ true → LacksC1 text → LacksC1 (params_text (params_of text))
+params_lack_c1 : (text : List ℕ) → list_all is_param (param_fields text) ≡ true → LacksC1 text → LacksC1 (params_text (params_of text))
 params_lack_c1 text are h = elim (cases_Bool (length text == 0)) [
   | inl empty ↦
-      let e : param_pieces text ≡ [] = rw empty refl in
-      rw e (pieces_text [] refl tt)
+      let e : param_fields text ≡ [] = rw empty refl in
+      rw e (fields_text [] refl tt)
   | inr some ↦
-      let e : param_pieces text ≡ pieces 58 text = rw some refl in
-      rw e (pieces_text (pieces 58 text) (rw e at are) (colon_pieces text h))
+      let e : param_fields text ≡ fields 58 text = rw some refl in
+      rw e (fields_text (fields 58 text) (rw e at are) (colon_fields text h))
 ]
 
 same_Ok : (a b : Option Link) → ◌≡◌ {A = Result (Option Link) LinkError} (Ok a) (Ok b) → a ≡ b
@@ -119,7 +119,7 @@ link_lacks_c1 params uri link is p u = elim (cases_Bool (length params == 0 && l
       let e : None ≡ link = same_Ok _ _ (rw empty at is) in
       rw (← e) none_lacks_c1
   | inr some ↦ elim (cases_Bool (is_utf8 params && is_utf8 uri)) [
-    | inl text ↦ elim (cases_Bool (list_all is_param (param_pieces params))) [
+    | inl text ↦ elim (cases_Bool (list_all is_param (param_fields params))) [
       | inl are ↦
           let l : Link = record { params = params_of params; uri = uri; implicit = false } in
           let e : Some l ≡ link = same_Ok _ _ (rw (some, text, are) at is) in

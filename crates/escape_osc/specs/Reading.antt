@@ -61,7 +61,7 @@ coded_reading code rest parts =
     else if bytes_eq code (codes "52") then selection_command rest
     else None
 
--- the same, by all parts
+-- what all parts mean, where they fit: the first part is the code
 abbrev pub fitting_reading : List (List ℕ) → Option Command
 fitting_reading [] = None
 fitting_reading (code ∷ rest) = coded_reading code rest (code ∷ rest)

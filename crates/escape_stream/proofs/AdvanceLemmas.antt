@@ -8,7 +8,7 @@ use Rattle.std.proofs.lemmas.List.{drop-drop}
 use Rattle.escape_framing.specs.Held.{Held, TakesMemory, hand_out, held_of}
 use Rattle.escape_framing.specs.Framed.{framed, framed_after, placed_after, begun_bytes}
 use Rattle.escape_framing.specs.Lending.{Lending}
-use Rattle.escape_framing.specs.Read.{ReadsEvent, TakesMemoryAt, count_of, whole_command}
+use Rattle.escape_framing.specs.Read.{ReadsEvent, count_of, held_after, whole_command}
 use Rattle.escape_framing.specs.declared.error.ParseError.{ParseError}
 use Rattle.escape_framing.specs.declared.error.ParseError.TheVariants as refusal
 use Rattle.escape_framing.specs.declared.event.Event.{Event}
@@ -20,7 +20,7 @@ use Rattle.escape_framing.specs.declared.event.Read.TheVariants as read
 use Rattle.escape_framing.proofs.HeldLemmas.{held_append}
 use Rattle.escape_framing.proofs.SpellLemmas.{placed_same}
 use Rattle.escape_stream.specs.Pieces.{Piece, Text, Single, pieces_of, pieces}
-use Rattle.escape_stream.specs.PiecesView.{parser_of, open_pieces, held_at_end, items_at, items_left, ready_at, AsksMemory, AsksMemoryLater, BytesTakeMemory, SomeTakesMemory, FirstTakesMemory, ReadsBody, IsReady, PiecesGo, IsOpen, IsOver, IsUnderWay, GivesPiece, HasGiven, GoesOn, SameBut, FindsHere, HandsOutOf, IsGoing, Begins as BeginsEvent}
+use Rattle.escape_stream.specs.PiecesView.{parser_of, open_pieces, held_at_end, items_at, items_left, ready_at, AsksMemory, FirstTakesMemory, ReadsBody, ReadsBodyFirst, HaveSameBodies, held_at, pieces_at, pieces_after, IsReady, PiecesGo, IsOpen, IsOver, IsUnderWay, GivesPiece, HasGiven, GoesOn, SameBut, FindsHere, HandsOutOf, IsGoing, Begins as BeginsEvent}
 use Rattle.escape_stream.specs.Walking.{FindsWhole}
 use Rattle.escape_stream.specs.ParserShown.{Parsing, lending_in}
 use Rattle.escape_stream.specs.Sequences.{FirstTakes, Gives, actions_left, event_actions}
@@ -37,16 +37,26 @@ use Rattle.escape_stream.proofs.PieceLemmas.{read_pieces, read_after, event_piec
 
 -- ---- where a body is read
 
-bodies_at : (old new : Pieces) → new.parser.now.held ≡ old.parser.now.held → new.bytes ≡ old.bytes → new.count ≡ old.count → (offset : ℕ) → ReadsBody new offset → ReadsBody old offset
-bodies_at old new h b n offset r = record {
-  after = subst (λ (k : ℕ). k ≤ offset) n r.after;
-  within = rw (sym b) r.within;
-  takes = rw (sym h, sym n, sym b) r.takes;
-}
+bodies_at : (old new : Pieces) → new.parser.now.held ≡ old.parser.now.held → new.bytes ≡ old.bytes → new.count ≡ old.count → HaveSameBodies old new
+bodies_at old new h b n offset r =
+    let held : held_at new offset ≡ held_at old offset = λ i. held_after (h i) (drop (n i) (b i).now) (offset - n i) in (
+      record {
+        after = subst (λ (k : ℕ). k ≤ offset) n r.after;
+        within = rw (sym b) r.within;
+        takes = subst (λ (x : Held). TakesMemory x.kept) held r.takes;
+      },
+      λ start i. pieces_of (framed_after start (start + offset) (held i) (drop offset (b i).now)),
+    )
+
+pub bodies_here : (it : Pieces) → HaveSameBodies it it
+bodies_here it offset r = (r, λ start. refl)
+
+pub bodies_join : (old mid new : Pieces) → HaveSameBodies old mid → HaveSameBodies mid new → HaveSameBodies old new
+bodies_join old mid new g h offset r = let x = h offset r in let y = g offset x.0 in (y.0, λ start. x.1 start ∙ y.1 start)
 
 -- ---- what is left of a control sequence
 
-bodies_too : (old new : Pieces) → SameBut old new → (offset : ℕ) → ReadsBody new offset → ReadsBody old offset
+bodies_too : (old new : Pieces) → SameBut old new → HaveSameBodies old new
 bodies_too old new s = bodies_at old new (ap (λ (p : Parsing). p.held) s.parser) s.bytes s.count
 
 ready_too : (old new : Pieces) → SameBut old new → IsUnderWay old → IsUnderWay new
@@ -60,7 +70,7 @@ ends_too : (old new : Pieces) → SameBut old new → held_at_end new ≡ held_a
 ends_too old new s = rw (s.parser, s.count, s.bytes) refl
 
 pub stays : (it : Pieces) → IsUnderWay it → GoesOn it it
-stays it u = record { same = λ start. refl; ready = u; ends = refl; bodies = λ offset b. b }
+stays it u = record { same = λ start. refl; ready = u; ends = refl; bodies = bodies_here it }
 
 pub gives_action : (first old new : Pieces) (a : Action) → GoesOn first old → SameBut old new → Gives (actions_left old.parser.now.parameters old.sequence) (Some a) (actions_left old.parser.now.parameters new.sequence) → HasGiven first (Some (code.Action a)) new
 gives_action first old new a g s e = record {
@@ -74,7 +84,7 @@ gives_action first old new a g s e = record {
   ready = ready_too old new s g.ready;
   ends = ends_too old new s ∙ g.ends;
   done = λ z. cc;
-  bodies = λ offset b. g.bodies offset (bodies_too old new s offset b);
+  bodies = bodies_join first old new g.bodies (bodies_too old new s);
 }
 
 -- nothing is left of it
@@ -85,7 +95,7 @@ sequence_over first old new g s e n = record {
       ∙ g.same start;
   ready = ready_too old new s g.ready;
   ends = ends_too old new s ∙ g.ends;
-  bodies = λ offset b. g.bodies offset (bodies_too old new s offset b);
+  bodies = bodies_join first old new g.bodies (bodies_too old new s);
 }
 
 -- ---- the end
@@ -146,17 +156,20 @@ read_ready old new r l h =
       rw (h.held, h.count, h.bytes) b.ends,
     )
 
-bodies_read : (old new : Pieces) (r : Read) (l : Lending) → HasRead old r l new → (offset : ℕ) → ReadsBody new offset → ReadsBody old offset
+bodies_read : (old new : Pieces) (r : Read) (l : Lending) → HasRead old r l new → HaveSameBodies old new
 bodies_read old new r l h offset b =
     let left : drop new.count new.bytes.now ≡ drop (count_of r) (drop old.count old.bytes.now) = (λ i. drop (h.count i) (h.bytes i).now) ∙ sym (drop-drop (count_of r) old.count old.bytes.now) in
     let more : count_of r + (offset - new.count) ≡ offset - old.count = omega (arith, h.count, b.after) in
-    record {
-      after = omega (arith, h.count, b.after);
-      within = rw (sym h.bytes) b.within;
-      takes = subst (TakesMemoryAt old.parser.now.held (drop old.count old.bytes.now)) more
-          (h.reads.opens h.under.reached (offset - new.count)
-          (subst (λ (x : List ℕ). TakesMemoryAt l.held x (offset - new.count)) left (subst (λ (x : Held). TakesMemoryAt x (drop new.count new.bytes.now) (offset - new.count)) h.held b.takes)));
-    }
+    let here : held_at new offset ≡ held_after l.held (drop (count_of r) (drop old.count old.bytes.now)) (offset - new.count) = λ i. held_after (h.held i) (left i) (offset - new.count) in
+    let held : held_at new offset ≡ held_at old offset
+    = here ∙ h.reads.opens h.under.reached (offset - new.count) (subst (λ (x : Held). TakesMemory x.kept) here b.takes) ∙ ap (held_after old.parser.now.held (drop old.count old.bytes.now)) more in (
+      record {
+        after = omega (arith, h.count, b.after);
+        within = rw (sym h.bytes) b.within;
+        takes = subst (λ (x : Held). TakesMemory x.kept) held b.takes;
+      },
+      λ start i. pieces_of (framed_after start (start + offset) (held i) (drop offset (h.bytes i).now)),
+    )
 
 read_whole : (old new : Pieces) (r : Read) (l : Lending) (h : HasRead old r l new) (start : ℕ) → pieces_of (framed_after start (start + old.count) old.parser.now.held (drop old.count old.bytes.now)) ≡ open_pieces start old
 read_whole old new r l h start = rw h.over refl
@@ -230,7 +243,7 @@ given_after old mid new piece g h = record {
   ready = h.ready;
   ends = h.ends ∙ g.ends;
   done = λ z. h.done z ∙ g.ends;
-  bodies = λ offset b. g.bodies offset (h.bodies offset b);
+  bodies = bodies_join old mid new g.bodies h.bodies;
 }
 
 pub found_after : (old mid new : Pieces) (piece : Option PieceCode) → GoesOn old mid → FindsHere mid piece new → is_some piece ≡ true → HasGiven old piece new
@@ -248,15 +261,29 @@ on_refusal (Ok value) it asks = tt
 on_refusal (Err error) it asks = asks
 
 -- for a body that is read on
-at_prefix : (held : Held) (bytes : List ℕ) → TakesMemory held.kept → TakesMemoryAt held bytes 0
+at_prefix : (held : Held) (bytes : List ℕ) → held ≡ held_after held bytes 0
 unfolding hand_out
-at_prefix held bytes t = t
+at_prefix held bytes = refl
 
-pub asks_body : (it : Pieces) → IsUnderWay it → TakesMemory it.parser.now.held.kept → AsksMemory it
-asks_body it u t =
+pub asks_body : (it : Pieces) → IsUnderWay it → it.sequence ≡ None → TakesMemory it.parser.now.held.kept → AsksMemory it
+asks_body it u over t =
     let z : 0 ≡ it.count - it.count = omega arith in
     let bytes = drop it.count it.bytes.now in
-    inl (it.count, record { after = omega arith; within = u.within; takes = subst (TakesMemoryAt it.parser.now.held bytes) z (at_prefix it.parser.now.held bytes t) })
+    let held : it.parser.now.held ≡ held_at it it.count = at_prefix it.parser.now.held bytes ∙ ap (held_after it.parser.now.held bytes) z in
+    inl (
+      it.count,
+      record {
+        reads = record { after = omega arith; within = u.within; takes = subst (λ (x : Held). TakesMemory x.kept) held t };
+        first = λ start. rw over (ap (λ (x : Held). pieces_of (framed_after start (start + it.count) x bytes)) held);
+      },
+    )
+
+-- so it is with what comes before the same pieces
+pub asks_before : (old mid : Pieces) → GoesOn old mid → AsksMemory mid → AsksMemory old
+asks_before old mid g (inl (offset, f)) =
+    let b = g.bodies offset f.reads in
+    inl (offset, record { reads = b.0; first = λ start. sym (g.same start) ∙ f.first start ∙ b.1 start })
+asks_before old mid g (inr f) = inr (λ start. subst FirstTakesMemory (g.same start) (f start))
 
 -- for the action of an event
 pub asks_event : (old new : Pieces) (n : ℕ) (l : Lending) (e : Event) → HasRead old (read.Bytes (Some e) n) l new → FirstTakes (event_actions l e) → AsksMemory old
@@ -315,16 +342,16 @@ begins it stream bytes h n b q = record {
   ends = rw (n, b, h) (sym (held_append stream bytes));
 }
 
-pub bytes_ask : (it : Pieces) (stream bytes : List ℕ) → it.parser.now.held ≡ held_of stream → it.count ≡ 0 → it.bytes.now ≡ bytes → it.sequence ≡ None → AsksMemoryLater it → BytesTakeMemory stream bytes
-bytes_ask it stream bytes h n b q (inl (offset, r)) =
+-- a body that is read in a call
+pub body_after : (it : Pieces) (stream bytes : List ℕ) → it.parser.now.held ≡ held_of stream → it.count ≡ 0 → it.bytes.now ≡ bytes → (offset : ℕ) → ReadsBody it offset
+    → (offset ≤ length bytes) × TakesMemory (held_of (stream ++ take offset bytes)).kept × (pieces_at (length stream) it offset ≡ pieces_after stream bytes offset)
+body_after it stream bytes h n b offset r =
     let z : offset - it.count ≡ offset = omega (arith, n) in
-    inl (
-      offset,
+    let held : held_at it offset ≡ held_of (stream ++ take offset bytes) = (λ i. (hand_out (h i) (take (z i) (drop (n i) (b i)))).held) ∙ sym (held_append stream (take offset bytes)) in (
       subst (λ (x : List ℕ). offset ≤ length x) b r.within,
-      subst (λ (x : Held). TakesMemory x.kept)
-          ((λ i. (hand_out (h i) (take (z i) (drop (n i) (b i)))).held) ∙ sym (held_append stream (take offset bytes))) r.takes,
+      subst (λ (x : Held). TakesMemory x.kept) held r.takes,
+      λ i. pieces_of (framed_after (length stream) (length stream + offset) (held i) (drop offset (b i))),
     )
-bytes_ask it stream bytes h n b q (inr f) = inr (subst SomeTakesMemory (begins it stream bytes h n b q).pieces (f (length stream)))
 
 -- ---- how far it is to the end
 

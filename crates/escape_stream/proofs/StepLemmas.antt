@@ -1,18 +1,20 @@
 -- Steps of a walk over the bytes of a call.
-use Rattle.std.proofs.Common.{◌≡◌, inl, inr, ℕ, List, [], ◌∷◌, ◌++◌, map, Some, refl, ap, subst, sym, ◌∙◌, append_assoc, append-nil}
+use Rattle.std.proofs.Common.{◌≡◌, inl, inr, ℕ, List, [], ◌∷◌, ◌++◌, length, map, Some, refl, ap, subst, sym, ◌∙◌, append_assoc, append-nil}
 use Rattle.std.specs.Prelude.{Err, IsErrOf}
 use Rattle.std.specs.List.{FoldsTo}
 use Rattle.std.proofs.lemmas.Fn.{FoldsTo-push}
 use Rattle.std.proofs.lemmas.List.{map-append}
+use Rattle.escape_framing.specs.Held.{held_of}
 use Rattle.escape_stream.specs.declared.perform.Halted.{Halted}
 use Rattle.escape_stream.specs.declared.perform.Halted.TheVariants as halted
 use Rattle.escape_stream.specs.declared.pieces.Piece.{Piece as PieceCode}
 use Rattle.escape_stream.specs.declared.pieces.Reading.{Reading}
-use Rattle.escape_stream.specs.Pieces.{Piece}
+use Rattle.escape_stream.specs.Pieces.{Piece, pieces}
 use Rattle.escape_stream.specs.Items.{Item, item_of, items_of}
 use Rattle.escape_stream.specs.Performing.{PerformsSome, HaltsAt}
-use Rattle.escape_stream.specs.PiecesView.{open_pieces, AsksMemory, AsksMemoryLater, item_handed, IsPiece, IsUnderWay, HasGiven}
+use Rattle.escape_stream.specs.PiecesView.{open_pieces, BytesTakeMemory, PerformsUpToMemory, TakesMemoryBefore, AsksMemory, AsksMemoryLater, item_handed, IsPiece, IsUnderWay, HasGiven}
 use Rattle.escape_stream.specs.Walking.{Performs, ArePieces, HandsOver, Reaches, WalksAll, WalksSome, WalksTo}
+use Rattle.escape_stream.proofs.AdvanceLemmas.{bodies_here, bodies_join, body_after}
 use Rattle.escape_stream.proofs.HandLemmas.{same_item}
 
 -- ---- how far a walk has come
@@ -37,7 +39,7 @@ module _ {P : Type 0} (does : P → Item → P → Type 0) where
   by_code before x after = does before (item_handed x) after
 
   pub reaches_here : (it : Reading) (p : P) → IsUnderWay it → Reaches does it p it p
-  reaches_here it p u = record { done = []; performed = refl; handed = λ start. record { pieces = []; are = tt; whole = refl }; ready = u; ends = refl; bodies = λ offset b. b }
+  reaches_here it p u = record { done = []; performed = refl; handed = λ start. record { pieces = []; are = tt; whole = refl }; ready = u; ends = refl; bodies = bodies_here it }
 
   pub reaches_given : (old mid new : Reading) (p q last : P) (x : PieceCode) → Reaches does old p mid q → HasGiven mid (Some x) new → does q (item_handed x) last → Reaches does old p new last
   reaches_given old mid new p q last x r g d = record {
@@ -53,7 +55,7 @@ module _ {P : Type 0} (does : P → Item → P → Type 0) where
         };
     ready = g.ready;
     ends = g.ends ∙ r.ends;
-    bodies = λ offset b. r.bodies offset (g.bodies offset b);
+    bodies = bodies_join old mid new r.bodies g.bodies;
   }
 
   folds_items : (p q : P) (xs : List PieceCode) → FoldsTo by_code p xs q → FoldsTo does p (map item_handed xs) q
@@ -99,14 +101,43 @@ pub asks_later : {P : Type 0} (does : P → Item → P → Type 0) (old : Readin
 asks_later does old first last w = by_case w.memory
   where
     by_case : AsksMemory w.it → AsksMemoryLater old
-    by_case (inl (offset, b)) = inl (offset, w.reached.bodies offset b)
+    by_case (inl (offset, b)) = inl (offset, (w.reached.bodies offset b.reads).0)
     by_case (inr f) = inr (λ start. let h = w.reached.handed start in record { done = h.pieces; left = open_pieces start w.it; whole = h.whole; takes = f start })
 
-pub refusal_asks : {P E : Type 0} (does : P → Item → P → Type 0) (refuses : P → Item → E → P → Type 0) (old new : Reading) (first last : P) (h : Halted E) → WalksTo does refuses old first (Err h) new last
-    → IsErrOf {T = Unit {0}} (Err h) halted.Memory → AsksMemoryLater old
-refusal_asks does refuses old new first last h w e =
+pub walks_early : {P E : Type 0} (does : P → Item → P → Type 0) (refuses : P → Item → E → P → Type 0) (old new : Reading) (first last : P) (h : Halted E) → WalksTo does refuses old first (Err h) new last
+    → IsErrOf {T = Unit {0}} (Err h) halted.Memory → WalksSome does old first last
+walks_early does refuses old new first last h w e =
     let k : h ≡ halted.Memory = cc in
-    asks_later does old first last (subst (λ x. WalksTo does refuses old first (Err x) new last) k w)
+    subst (λ x. WalksTo does refuses old first (Err x) new last) k w
+
+-- what the performer has done by then, in a call that began with these bytes after a stream
+pub walks_up_to : {P : Type 0} (does : P → Item → P → Type 0) (old : Reading) (first last : P) (stream bytes : List ℕ) → old.parser.now.held ≡ held_of stream → old.count ≡ 0 → old.bytes.now ≡ bytes → open_pieces (length stream) old ≡ pieces stream bytes
+    → WalksSome does old first last → PerformsUpToMemory does first stream bytes last
+walks_up_to does old first last stream bytes held none is whole w =
+    let start = length stream in
+    let h = w.reached.handed start in
+    record {
+      done = h.pieces;
+      left = open_pieces start w.it;
+      whole = sym whole ∙ h.whole;
+      performed = subst (λ (l : List Item). FoldsTo does first l last) (sym (are_items h.pieces w.reached.done h.are)) (folds_items does first last w.reached.done w.reached.performed);
+      takes = by_case w.memory;
+    }
+  where
+    by_case : AsksMemory w.it → TakesMemoryBefore stream bytes (open_pieces (length stream) w.it)
+    by_case (inl (offset, b)) =
+        let r = w.reached.bodies offset b.reads in
+        let t = body_after old stream bytes held none is offset r.0 in
+        inl (offset, t.0, t.1, b.first (length stream) ∙ r.1 (length stream) ∙ t.2)
+    by_case (inr f) = inr (f (length stream))
+
+-- so these bytes take some
+pub takes_some : {P : Type 0} (does : P → Item → P → Type 0) (first last : P) (stream bytes : List ℕ) → PerformsUpToMemory does first stream bytes last → BytesTakeMemory stream bytes
+takes_some does first last stream bytes p = by_case p.takes
+  where
+    by_case : TakesMemoryBefore stream bytes p.left → BytesTakeMemory stream bytes
+    by_case (inl (n, within, body, left)) = inl (n, within, body)
+    by_case (inr next) = inr (record { done = p.done; left = p.left; whole = p.whole; takes = next })
 
 -- ---- a refusal
 

@@ -1,4 +1,4 @@
--- Pieces without their places.
+-- Pieces without their offsets.
 use Rattle.std.specs.Prelude.{ℕ, List, [], ◌∷◌, map}
 use Rattle.std.specs.List.{flat_map}
 use Rattle.std.specs.Str.{chars}

@@ -1,10 +1,11 @@
 -- What an iterator of pieces has yet to hand out, and of the parser that it borrows.
 use Rattle.std.specs.Prelude.{◌≡◌, ◌≤◌, ◌⊎◌, ℕ, ◌+◌, ◌-◌, ◌*◌, true, false, List, [], ◌∷◌, ◌++◌, length, take, drop}
 use Rattle.std.specs.Prelude.{map, Option, Some, None, Result, Ok, Err, IfOk, OnErr}
+use Rattle.std.specs.List.{FoldsTo}
 use base.Fml.{GName}
 use Rattle.std.specs.declared.alloc.AllocError.{AllocError}
 use Rattle.escape_framing.specs.Event.{rank}
-use Rattle.escape_framing.specs.Read.{TakesMemoryAt}
+use Rattle.escape_framing.specs.Read.{held_after}
 use Rattle.escape_framing.specs.Framed.{framed_after, IsReached, IsCarried}
 use Rattle.escape_framing.specs.Held.{Held, TakesMemory, hand_out, held_of}
 use Rattle.escape_framing.specs.declared.error.ParseError.{ParseError}
@@ -43,6 +44,12 @@ open_pieces start it =
 abbrev pub held_at_end : Pieces → Held
 held_at_end it = (hand_out it.parser.now.held (drop it.count it.bytes.now)).held
 
+-- nothing of the bytes of its call was read yet
+pub record IsAtStart (held : Held) (bytes : List ℕ) (it : Pieces) : Type 0 where
+  pub same : it.parser.now.held ≡ held
+  pub start : it.count ≡ 0
+  pub bytes_are : it.bytes.now ≡ bytes
+
 -- What was read are bytes of a stream, whatever came before the call; a character that has begun in it isn't one to
 -- lend.
 pub record IsUnderWay (it : Pieces) : Type 0 where
@@ -56,7 +63,7 @@ FirstTakesMemory [] = ⊥
 FirstTakesMemory (Text from text ∷ pieces) = ⊥
 FirstTakesMemory (Single action ∷ pieces) = ActionTakesMemory action
 
--- so is one of them
+-- one of the pieces is an action that takes memory
 pub record SomeTakesMemory (pieces : List Piece) : Type 0 where
   pub done : List Piece
   pub left : List Piece
@@ -70,6 +77,28 @@ BytesTakeMemory stream bytes =
     ((n : ℕ) × (n ≤ length bytes) × TakesMemory (held_of (stream ++ take n bytes)).kept)
     ⊎ SomeTakesMemory (pieces stream bytes)
 
+-- the pieces that a call after `stream` hands out of its bytes after the first n
+abbrev pub pieces_after : List ℕ → List ℕ → ℕ → List Piece
+pieces_after stream bytes n =
+    pieces_of (framed_after (length stream) (length stream + n) (held_of (stream ++ take n bytes)) (drop n bytes))
+
+-- Of the pieces of a call these are left where memory is taken: for the body of a command or a header that is read
+-- after the bytes of all pieces before them, or for the first of them.
+abbrev pub TakesMemoryBefore : List ℕ → List ℕ → List Piece → Type 0
+TakesMemoryBefore stream bytes left =
+    ((n : ℕ) × (n ≤ length bytes) × TakesMemory (held_of (stream ++ take n bytes)).kept
+    × (left ≡ pieces_after stream bytes n))
+    ⊎ FirstTakesMemory left
+
+-- a performer did the pieces of a call that come before memory is taken
+pub record PerformsUpToMemory {P : Type 0} (does : P → Item → P → Type 0) (first : P) (stream bytes : List ℕ) (last : P)
+    : Type 0 where
+  pub done : List Piece
+  pub left : List Piece
+  pub whole : pieces stream bytes ≡ done ++ left
+  pub performed : FoldsTo does first (items_of done) last
+  pub takes : TakesMemoryBefore stream bytes left
+
 -- a piece as a value
 abbrev pub IsPiece : Piece → PieceCode → Type 0
 IsPiece (Text from text) (code.Text t) = t.now ≡ text
@@ -77,7 +106,7 @@ IsPiece (Text from text) (code.Action a) = ⊥
 IsPiece (Single a) (code.Text t) = ⊥
 IsPiece (Single a) (code.Action b) = value_of b ≡ a
 
--- the same without its place
+-- the item of a piece: a text without its offset, or the action
 abbrev pub item_handed : PieceCode → Item
 item_handed (code.Text t) = item.Text t.now
 item_handed (code.Action a) = item.Single (value_of a)
@@ -87,15 +116,34 @@ abbrev pub GivesPiece : List Piece → Option PieceCode → List Piece → Type 
 GivesPiece before None after = before ≡ []
 GivesPiece before (Some p) after = (piece : Piece) × IsPiece piece p × (before ≡ piece ∷ after)
 
--- after `offset` bytes of its call, those already read among them, the body of a command or a header is read
+-- what is held after `offset` bytes of its call, those already read among them
+abbrev pub held_at : Pieces → ℕ → Held
+held_at it offset = held_after it.parser.now.held (drop it.count it.bytes.now) (offset - it.count)
+
+-- the pieces of the bytes after these, in a call after `start` bytes
+abbrev pub pieces_at : ℕ → Pieces → ℕ → List Piece
+pieces_at start it offset =
+    pieces_of (framed_after start (start + offset) (held_at it offset) (drop offset it.bytes.now))
+
+-- there the body of a command or a header is read
 pub record ReadsBody (it : Pieces) (offset : ℕ) : Type 0 where
   pub after : it.count ≤ offset
   pub within : offset ≤ length it.bytes.now
-  pub takes : TakesMemoryAt it.parser.now.held (drop it.count it.bytes.now) (offset - it.count)
+  pub takes : TakesMemory (held_at it offset).kept
 
--- memory is taken for a body or a header that is read, or for the next action
+-- it is read before anything is handed out: all pieces that are left come after it
+pub record ReadsBodyFirst (it : Pieces) (offset : ℕ) : Type 0 where
+  pub reads : ReadsBody it offset
+  pub first : (start : ℕ) → open_pieces start it ≡ pieces_at start it offset
+
+-- a body or a header that is read later is read here too, with the same pieces after it
+abbrev pub HaveSameBodies : Pieces → Pieces → Type 0
+HaveSameBodies old new = (offset : ℕ) → ReadsBody new offset
+    → ReadsBody old offset × ((start : ℕ) → pieces_at start new offset ≡ pieces_at start old offset)
+
+-- memory is taken for a body or a header that is read before the next piece, or for that
 abbrev pub AsksMemory : Pieces → Type 0
-AsksMemory it = ((offset : ℕ) × ReadsBody it offset) ⊎ ((start : ℕ) → FirstTakesMemory (open_pieces start it))
+AsksMemory it = ((offset : ℕ) × ReadsBodyFirst it offset) ⊎ ((start : ℕ) → FirstTakesMemory (open_pieces start it))
 
 -- memory is taken for a body or a header that is read, or for any action that is to come
 abbrev pub AsksMemoryLater : Pieces → Type 0
@@ -107,14 +155,14 @@ pub record HasGiven (old : Pieces) (piece : Option PieceCode) (new : Pieces) : T
   pub ready : IsUnderWay new
   pub ends : held_at_end new ≡ held_at_end old
   pub done : piece ≡ None → new.parser.now.held ≡ held_at_end old
-  pub bodies : (offset : ℕ) → ReadsBody new offset → ReadsBody old offset
+  pub bodies : HaveSameBodies old new
 
--- the same is left to hand out
+-- what is left to hand out stays
 pub record GoesOn (old new : Pieces) : Type 0 where
   pub same : (start : ℕ) → open_pieces start new ≡ open_pieces start old
   pub ready : IsUnderWay new
   pub ends : held_at_end new ≡ held_at_end old
-  pub bodies : (offset : ℕ) → ReadsBody new offset → ReadsBody old offset
+  pub bodies : HaveSameBodies old new
 
 -- the start of the remaining bytes was read: it gives the next piece, or none yet, and then the same pieces remain
 abbrev pub FindsHere : Pieces → Option PieceCode → Pieces → Type 0

@@ -46,7 +46,7 @@ abbrev pub placed_actions : List ℕ → List (ℕ × StreamAction)
 placed_actions stream =
     flat_map (λ (p : ℕ × Dispatch). map (λ a. (p.0, a)) (actions_of_dispatch p.1)) (placed_dispatches stream)
 
--- The first bytes of the stream, as many as the position says, decide the action at the index, and fewer don't.
+-- The first `offset` bytes of the stream decide the action at the index, and fewer don't.
 pub record IsPlacedAction (stream : List ℕ) (index offset : ℕ) (action : StreamAction) : Type 0 where
   -- the stream has at least `offset` bytes
   pub within : offset ≤ length stream

@@ -7,7 +7,7 @@ use Rattle.text_clusters.specs.Controls.{is_c1, holds_c1}
 use Rattle.csi_codec.specs.Actions.{csi_reading}
 use Rattle.csi_codec.specs.Actions as codec
 use Rattle.csi_codec.specs.Sequences.{csi_text}
-use Rattle.csi_codec.specs.Fronts.{Front, HasFront, most_tokens}
+use Rattle.csi_codec.specs.Prefixes.{Prefix, HasPrefix, most_tokens}
 use Rattle.csi_codec.specs.Texts.{is_spellable}
 use Rattle.csi_codec.specs.Laws.{is_exempt}
 use Rattle.csi_codec.specs.Writable.{ArePairBytes}
@@ -35,8 +35,8 @@ pub record IsPrintableText (text : List ℕ) : Type 0 where
 
 -- the text of the CSI action is one sequence and nothing after it, and its tokens mean that action alone
 pub record IsReadBack (a : codec.Action) : Type 0 where
-  pub prefix : Front
-  pub stands : HasFront (csi_text a) prefix
+  pub prefix : Prefix
+  pub stands : HasPrefix (csi_text a) prefix
   pub whole : prefix.rest ≡ []
   pub action : csi_reading prefix.params prefix.truncated prefix.control ≡ a ∷ []
 
@@ -140,7 +140,7 @@ WritableListsReadBack =
 abbrev pub WritableListsEndWhole : Type 0
 WritableListsEndWhole = (actions : List StreamAction) → IsWritable actions → tail_of (stream_text actions) ≡ Begun []
 
--- so it is of what the text decides and leaves after any stream that leaves no segment unfinished
+-- after any stream that leaves no segment unfinished the text decides the actions, and leaves none either
 abbrev pub WritableListsReadOn : Type 0
 WritableListsReadOn =
     (stream : List ℕ) (actions : List StreamAction) → tail_of stream ≡ Begun [] → IsWritable actions

@@ -6,7 +6,7 @@ use Rattle.std.specs.declared.alloc.AllocError.{AllocError}
 use Rattle.escape_stream.specs.Pieces.{Piece}
 use Rattle.escape_stream.specs.Items.{Item}
 use Rattle.escape_stream.specs.PiecesView.{lender_of, parser_of, open_pieces, held_at_end, item_handed, steps_left}
-use Rattle.escape_stream.specs.PiecesView.{AsksMemory, IsPiece, IsUnderWay, HasGiven, ReadsBody}
+use Rattle.escape_stream.specs.PiecesView.{AsksMemory, IsPiece, IsUnderWay, HasGiven, HaveSameBodies}
 use Rattle.escape_stream.specs.declared.action.Action.{Action}
 use Rattle.escape_stream.specs.declared.perform.Halted.{Halted}
 use Rattle.escape_stream.specs.declared.perform.Halted.TheVariants as halted
@@ -67,7 +67,7 @@ pub record Reaches {P : Type 0} (does : P → Item → P → Type 0) (old : Read
   pub handed : (start : ℕ) → HandsOver done old new start
   pub ready : IsUnderWay new
   pub ends : held_at_end new ≡ held_at_end old
-  pub bodies : (offset : ℕ) → ReadsBody new offset → ReadsBody old offset
+  pub bodies : HaveSameBodies old new
 
 -- a walk that ended: at the end, or early
 pub record WalksAll {P : Type 0} (does : P → Item → P → Type 0) (old : Reading) (first : P) (new : Reading) (last : P) :

@@ -15,7 +15,7 @@ pub fn action_offsets()
         → slice_get (placed_actions stream) index ≡ Some (offset, action) → IsPlacedAction stream index offset action }
     ensures all { (stream : List ℕ)
         → map (λ (p : ℕ × StreamAction). p.1) (placed_actions stream) ≡ stream_actions stream }
-    ensures in_pieces { (stream more : List ℕ)
+    ensures in_chunks { (stream more : List ℕ)
         → newly_decided_actions stream more
         ≡ map (λ (p : ℕ × StreamAction). p.1)
         (filter (λ (p : ℕ × StreamAction). nat_lt (length stream) p.0) (placed_actions (stream ++ more))) }
@@ -27,8 +27,8 @@ pub fn actions_as_soon_as_decided()
     ensures { (stream : List ℕ) → IsUndecidedAction stream }
 {}
 
-/// Pieces decide what their concatenation decides, in the same order.
-pub fn actions_of_pieces_join()
+/// Chunks decide what their concatenation decides, in the same order.
+pub fn actions_of_chunks_join()
     ensures { (stream x y : List ℕ)
         → newly_decided_actions stream (x ++ y)
         ≡ newly_decided_actions stream x ++ newly_decided_actions (stream ++ x) y }

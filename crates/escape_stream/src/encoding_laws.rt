@@ -41,7 +41,7 @@ pub fn read_sequences_are_writable()
     ensures { ReadSequencesAreWritable }
 {
     csi_codec::laws::actions_read_back();
-    csi_codec::laws::texts_are_fronts();
+    csi_codec::laws::texts_are_sequences();
 }
 
 /// The operating system command that is read from a body of a stream can be written. C0 controls and DEL in a body are

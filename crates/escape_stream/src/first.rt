@@ -1,4 +1,4 @@
-//! The first actions of bytes.
+//! The first action of some bytes, or all that its last byte decides.
 ghost use Rattle.std.specs.Prelude.{◌≡◌, ◌≢◌, ◌↔◌, ℕ, true, None, IsErrOf, IfOk, OnOk, IsTrue, List, [], ◌++◌, map};
 ghost use Rattle.std.specs.Prelude.{is_err};
 ghost use Rattle.std.specs.Option.{option_map};
@@ -109,7 +109,7 @@ impl Parser {
     /// no prefix decides one, all bytes are read, and the answer is `None`. A call that was refused memory answers
     /// `Memory`, and each later call `Failed`, without reading.
     pub fn parse_first(&mut self, bytes: &[u8]) -> Result<Option<(Action, usize)>, ParseError>
-        // Where a stream has been read, in any pieces, this is the first action that the bytes newly decide.
+        // Where a stream has been read, in any chunks, this is the first action that the bytes newly decide.
         ensures first { IfOk result
             (λ found. (stream : List ℕ) → self.old.held ≡ held_of stream
             → IsFirst stream bytes.now (option_map (λ f. (value_of f.0, f.1)) found)) }
@@ -158,7 +158,7 @@ impl Parser {
         &mut self,
         bytes: &[u8],
     ) -> Result<Option<(Vec<Action>, usize)>, ParseError>
-        // Where a stream has been read, in any pieces, these are the actions that the prefix newly decides.
+        // Where a stream has been read, in any chunks, these are the actions that the prefix newly decides.
         ensures first { IfOk result
             (λ found. (stream : List ℕ) → self.old.held ≡ held_of stream
             → IsFirstSettled stream bytes.now (option_map (λ f. (map value_of f.0.items, f.1)) found)) }

@@ -1,4 +1,4 @@
-//! What is read, handed to a performer.
+//! `Parser::hand_to`: hands what is read to a performer.
 ghost use Rattle.std.specs.Prelude.{◌≡◌, ◌↔◌, ℕ, true, IfErr, OnOk, IsErrOf, List, ◌++◌, is_err};
 ghost use Rattle.std.specs.List.{FoldsTo};
 ghost use Rattle.escape_framing.specs.Held.{held_of};
@@ -6,6 +6,8 @@ ghost use Rattle.escape_stream.specs.Items.{items, items_of};
 ghost use Rattle.escape_stream.specs.Performing.{HaltsAt};
 ghost use Rattle.escape_stream.specs.PiecesView.{items_to_come, lender_of, AsksMemoryLater, BytesTakeMemory, parser_of};
 ghost use Rattle.escape_stream.specs.PiecesView.{open_pieces, held_at_end, HadFailed, IsOpen, IsOver, IsGoing, IsReady};
+ghost use Rattle.escape_stream.specs.PiecesView.{PerformsUpToMemory};
+ghost use Rattle.escape_stream.specs.Walking.{WalksSome};
 
 use crate::parser::Parser;
 use crate::perform::{Halted, Perform};
@@ -23,7 +25,7 @@ impl<'p, 'a> Reading<'p, 'a> {
         ensures halted { IfErr result
             (λ halted. (start : ℕ)
             → HaltsAt P.does P.refuses performer.old (items_of (open_pieces start self.old)) halted performer.new) }
-        ensures memory { IsErrOf result Halted.Memory → AsksMemoryLater self.old }
+        ensures early { IsErrOf result Halted.Memory → WalksSome P.does self.old performer.old performer.new }
         ensures held { OnOk result ((parser_of self.new).held ≡ held_at_end self.old) }
         ensures failed { (parser_of self.new).failed ≡ is_err result }
         ensures known { IsErrOf result Halted.Failed → ⊥ }
@@ -52,6 +54,8 @@ impl<'p, 'a> Reading<'p, 'a> {
             (λ halted. HaltsAt P.does P.refuses performer.old (items_to_come self.old) halted performer.new) }
         // `Memory` comes only where a body, a header or an action takes memory.
         ensures memory { IsErrOf result Halted.Memory → AsksMemoryLater self.old }
+        // The performer has then done what comes before.
+        ensures early { IsErrOf result Halted.Memory → WalksSome P.does self.old performer.old performer.new }
         // All bytes have then been read.
         ensures held { OnOk result (IsOpen self.old → (parser_of self.new).held ≡ held_at_end self.old) }
         ensures failed { IsErrOf result Halted.Failed ↔ HadFailed self.old }
@@ -84,7 +88,7 @@ impl Parser {
     ) -> Result<(), Halted<P::Refusal>>
         requires { P.ready performer.old }
         ensures ready { OnOk result (P.ready performer.new) }
-        // Where a stream has been read, in any pieces, the performer did what these bytes hand out after it, or a
+        // Where a stream has been read, in any chunks, the performer did what these bytes hand out after it, or a
         // part of it.
         ensures done { OnOk result
             ((stream : List ℕ) → self.old.held ≡ held_of stream
@@ -95,6 +99,9 @@ impl Parser {
         // `Memory` comes only where these bytes take memory.
         ensures memory { IsErrOf result Halted.Memory → (stream : List ℕ) → self.old.held ≡ held_of stream
             → BytesTakeMemory stream bytes.now }
+        // The performer has then done what comes before.
+        ensures early { IsErrOf result Halted.Memory → (stream : List ℕ) → self.old.held ≡ held_of stream
+            → PerformsUpToMemory P.does performer.old stream bytes.now performer.new }
         // The bytes have then been read too.
         ensures held { OnOk result
             ((stream : List ℕ) → self.old.held ≡ held_of stream → self.new.held ≡ held_of (stream ++ bytes.now)) }

@@ -1,4 +1,25 @@
-//! Escape streams: how a stream of bytes is cut into segments, and the actions that these decide.
+//! Escape streams: the parser, which reads bytes and hands out texts and actions as soon as the bytes decide them, and
+//! the encoder of actions.
+//!
+//! - `action`: the actions of a stream.
+//! - `action_laws`: laws of the actions of a stream: functions that do nothing, each ensuring one or more.
+//! - `control`: control characters by name.
+//! - `device`: device control strings (DCS), in parts.
+//! - `encoding`: the bytes of actions.
+//! - `encoding_laws`: laws of the texts of actions: functions that do nothing, each ensuring one.
+//! - `engine`: the walk over the bytes of a call, which finds each text and each action and hands it to a
+//!   performer.
+//! - `event_actions`: the actions of events that are no control sequences.
+//! - `fast`: shortcuts: one reads a command that is whole at the start of the remaining bytes without a copy,
+//!   another reads a command of few parts without a list of them, and one takes the bytes of a text in ASCII as
+//!   its characters.
+//! - `first`: the first action of some bytes, or all that its last byte decides.
+//! - `handover`: `Parser::hand_to`: hands what is read to a performer.
+//! - `parse`: the actions of bytes, called at one by one, or as a list.
+//! - `parser`: `Parser`: reads a stream of bytes as actions.
+//! - `perform`: `Perform`: the trait of what is done with each text and action that a parser reads.
+//! - `pieces`: the pieces of a stream: texts, which are lent from the bytes of the call, and actions.
+//! - `sequence`: the actions of a control sequence, one by one.
 #![tactic(auto)]
 
 mod action;

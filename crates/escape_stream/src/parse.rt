@@ -9,21 +9,11 @@ ghost use Rattle.escape_stream.specs.StreamActions.{newly_decided_actions};
 ghost use Rattle.escape_stream.specs.Parsing.{IsCalledAt};
 
 use crate::action::Action;
+use crate::fast::{bytes_of_ascii, call_at_bytes};
 use crate::parser::Parser;
 use crate::perform::Perform;
 use escape_framing::ParseError;
 use std::alloc::{AllocError, Global};
-
-// Calls the callback at a print of each byte.
-fn call_at_bytes<F: FnMut(Action)>(bytes: &[u8], callback: &mut F)
-    requires { F.IsAlwaysCallable callback.old }
-    ensures called { IsCalledAt (λ f a f'. F.step f a tt f') callback.old (map print bytes.now) callback.new }
-    ensures callable { F.IsAlwaysCallable callback.new }
-{
-    for byte in bytes {
-        callback(Action::Print(char::from(*byte)));
-    }
-}
 
 // Calls the callback at a print of each character.
 fn call_at_chars<F: FnMut(Action)>(text: &str, callback: &mut F)
@@ -36,16 +26,15 @@ fn call_at_chars<F: FnMut(Action)>(text: &str, callback: &mut F)
     }
 }
 
-// Calls the callback at a print of each character, faster where each is one byte.
+// Calls the callback at a print of each character.
 fn call_at_text<F: FnMut(Action)>(text: &str, callback: &mut F)
     requires { F.IsAlwaysCallable callback.old }
     ensures called { IsCalledAt (λ f a f'. F.step f a tt f') callback.old (map print (chars text.now)) callback.new }
     ensures callable { F.IsAlwaysCallable callback.new }
 {
-    if text.is_ascii() {
-        call_at_bytes(text.as_bytes(), callback);
-    } else {
-        call_at_chars(text, callback);
+    match bytes_of_ascii(text) {
+        Some(bytes) => call_at_bytes(bytes, callback),
+        None => call_at_chars(text, callback),
     }
 }
 
@@ -153,7 +142,7 @@ impl Parser {
         callback: F,
     ) -> Result<F, ParseError>
         requires { F.IsAlwaysCallable callback }
-        // Where a stream has been read, in any pieces, the callback is called at each action that the bytes newly
+        // Where a stream has been read, in any chunks, the callback is called at each action that the bytes newly
         // decide.
         ensures called { IfOk result
             (λ last. (stream : List ℕ) → self.old.held ≡ held_of stream
@@ -179,7 +168,7 @@ impl Parser {
     /// the callback borrows nothing can be proved after the call: `parse_with` gives it back.
     pub fn parse<F: FnMut(Action)>(&mut self, bytes: &[u8], callback: F) -> Result<(), ParseError>
         requires { F.IsAlwaysCallable callback }
-        // Where a stream has been read, in any pieces, the callback is called at each action that the bytes newly
+        // Where a stream has been read, in any chunks, the callback is called at each action that the bytes newly
         // decide.
         ensures called { OnOk result
             ((stream : List ℕ) → self.old.held ≡ held_of stream
@@ -200,7 +189,7 @@ impl Parser {
     /// Reads bytes, and answers the actions that they decide after those that were read before, joined by `append_to`.
     /// A call that was refused memory answers `Memory`, and each later call `Failed`, without reading.
     pub fn parse_as_vec(&mut self, bytes: &[u8]) -> Result<Vec<Action>, ParseError>
-        // Where a stream has been read, in any pieces, these are the actions that the bytes newly decide.
+        // Where a stream has been read, in any chunks, these are the actions that the bytes newly decide.
         ensures actions { IfOk result
             (λ actions. (stream : List ℕ) → self.old.held ≡ held_of stream
             → map value_of actions.items ≡ fold appended [] (newly_decided_actions stream bytes.now)) }

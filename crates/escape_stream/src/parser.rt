@@ -1,4 +1,4 @@
-//! The parser: from bytes to actions.
+//! `Parser`: reads a stream of bytes as actions.
 ghost use Rattle.std.specs.Prelude.{◌≡◌, ◌↔◌, ℕ, true, false, IfOk, IfSome, OnErr, IsTrue, List, [], ◌++◌, length};
 ghost use Rattle.std.specs.Prelude.{Some, None};
 ghost use Rattle.escape_framing.specs.Framed.{IsReached};
@@ -8,8 +8,8 @@ ghost use Rattle.escape_osc.specs.Parts.{parts_of};
 ghost use Rattle.escape_osc.specs.Reading.{osc_reading};
 ghost use Rattle.escape_stream.specs.ParserShown.{lending_in};
 ghost use Rattle.escape_stream.specs.Pieces.{pieces};
-ghost use Rattle.escape_stream.specs.PiecesView.{lender_of, parser_of, AsksMemoryLater, BytesTakeMemory, open_pieces};
-ghost use Rattle.escape_stream.specs.PiecesView.{held_at_end, IsUnderWay, IsOpen, HadFailed, IsReady};
+ghost use Rattle.escape_stream.specs.PiecesView.{lender_of, parser_of, open_pieces};
+ghost use Rattle.escape_stream.specs.PiecesView.{held_at_end, IsAtStart, IsUnderWay, IsOpen, HadFailed, IsReady};
 ghost use Rattle.escape_stream.specs.Sequences.{FirstTakes, Gives, actions_left, optional_action, own_actions};
 ghost use Rattle.escape_stream.specs.StreamAction.{command};
 ghost use Rattle.escape_stream.specs.StreamActionView.{value_of};
@@ -22,7 +22,7 @@ use escape_framing::{Event, Framer, Read};
 use std::alloc::{AllocError, Global};
 use std::marker::Model;
 
-/// Reads a stream of bytes, in any pieces, and hands out its actions as soon as the bytes decide them. It keeps only
+/// Reads a stream of bytes, in any chunks, and hands out its actions as soon as the bytes decide them. It keeps only
 /// what is unfinished. Memory is taken for the bodies of operating system commands, the headers of device control
 /// strings, and the actions that hold these or what is left of a control sequence; once it was refused, the parser has
 /// failed.
@@ -163,8 +163,6 @@ impl Parser {
     // Lends what bytes decide.
     pub(crate) fn reading<'p, 'b>(&'p mut self, bytes: &'b [u8]) -> Reading<'p, 'b>
         ensures same { lender_of result ≡ self.entry.ghost_name }
-        ensures memory { AsksMemoryLater result → (stream : List ℕ) → self.old.held ≡ held_of stream
-            → BytesTakeMemory stream bytes.now }
         ensures pieces { (stream : List ℕ) → self.old.held ≡ held_of stream
             → IsUnderWay result × (open_pieces (length stream) result ≡ pieces stream bytes.now)
             × (held_at_end result ≡ held_of (stream ++ bytes.now)) }
@@ -172,6 +170,7 @@ impl Parser {
         ensures failed { HadFailed result ↔ (self.old.failed ≡ true) }
         ensures open { IsOpen result ↔ (self.old.failed ≡ false) }
         ensures parser { (parser_of result).failed ≡ true }
+        ensures begins { IsAtStart self.old.held bytes.now result }
     {
         let stage = if self.failed {
             Stage::Failed
@@ -193,7 +192,7 @@ impl Parser {
     /// `Failed`.
     pub fn pieces<'a>(&'a mut self, bytes: &'a [u8]) -> Pieces<'a>
         ensures same { lender_of result ≡ self.entry.ghost_name }
-        // Where a stream has been read, in any pieces, what is to come is what these bytes hand out after it.
+        // Where a stream has been read, in any chunks, what is to come is what these bytes hand out after it.
         ensures pieces { (stream : List ℕ) → self.old.held ≡ held_of stream
             → IsUnderWay result × (open_pieces (length stream) result ≡ pieces stream bytes.now)
             × (held_at_end result ≡ held_of (stream ++ bytes.now)) }

@@ -1,4 +1,4 @@
-//! What is done with what a parser reads.
+//! `Perform`: the trait of what is done with each text and action that a parser reads.
 ghost use Rattle.std.specs.Prelude.{◌≡◌, IfErr, OnOk};
 ghost use Rattle.escape_stream.specs.Items.{Item, Text, Single};
 ghost use Rattle.escape_stream.specs.StreamActionView.{value_of};

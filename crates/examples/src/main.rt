@@ -1,10 +1,12 @@
 //! Examples of the library. Each module is one, and prints a section.
 //!
-//! - `recorder`: after each chunk of a program's output it keeps what a viewer needs that has read what came before.
+//! - `recorder`: after each chunk of a program's output it keeps what a viewer needs that has read what came
+//!   before.
 //! - `screen_test`: feeds a program's output to a terminal, and compares the screen with what it should be.
-//! - `viewers`: a chain of two viewers: the first reads a terminal's updates, and the second reads patches from the
-//!   first.
-//! - `widths`: widths of one's own: in an East Asian font many characters take two columns that take one in others.
+//! - `viewers`: a chain of two viewers: the first reads a terminal's updates, and the second reads patches from
+//!   the first.
+//! - `widths`: widths of one's own: in an East Asian font many characters take two columns that take one in
+//!   others.
 #![tactic(auto)]
 
 mod recorder;

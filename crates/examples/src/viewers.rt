@@ -68,7 +68,7 @@ impl Chain {
     }
 }
 
-// Whether two terminals show the same rows, with the cursor in the same place.
+// Whether two terminals show the same rows, with the cursor at the same position.
 fn is_alike(terminal: &Screen, viewer: &Screen) -> Result<bool, AllocError> {
     let rows = terminal.surface().screen_chars_to_string()?;
     let shown = viewer.surface().screen_chars_to_string()?;

@@ -1,4 +1,4 @@
-//! What a line says.
+//! A line of a recording, read: its time, and what is done.
 ghost use Rattle.std.specs.Prelude.{◌≡◌, IfOk, option_and_then, option_map};
 ghost use Rattle.json.specs.Find.{as_number, at};
 ghost use Rattle.json.specs.Value.{value_view};

@@ -1,4 +1,4 @@
-//! What happens to a terminal.
+//! `Event`: what happens to a terminal, and when.
 use crate::size::Size;
 
 /// What is done.

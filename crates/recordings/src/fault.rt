@@ -29,7 +29,7 @@ pub enum Fault {
     #[error("earlier than the event before it")]
     Back,
     /// In version 3 the times come to 2^63 microseconds or more.
-    #[error("too late: some 290,000 years behind the beginning")]
+    #[error("too late: some 290,000 years after the beginning")]
     Late,
 }
 

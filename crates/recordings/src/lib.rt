@@ -1,4 +1,14 @@
 //! Recordings of terminals: asciicast, versions 2 and 3, and the bytes of an application as they are.
+//!
+//! - `entry`: a line of a recording, read: its time, and what is done.
+//! - `event`: `Event`: what happens to a terminal, and when.
+//! - `fault`: what may be wrong with a recording.
+//! - `header`: the header of a recording.
+//! - `laws`: laws of recordings, as the contracts of functions that do nothing.
+//! - `numerals`: the times and the counts that texts write.
+//! - `reader`: a recording that is read line by line.
+//! - `recording`: `Recording`: the size and the events of a terminal, read from an input.
+//! - `size`: the size of a terminal.
 #![tactic(auto)]
 
 mod entry;

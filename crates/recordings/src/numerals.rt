@@ -45,7 +45,7 @@ fn first(digits: &[u8], count: usize) -> &[u8]
 #[tactic(auto, unfolding(crate::specs::Numerals::micros))]
 fn micros(numeral: &Numeral<'_>, point: usize) -> u64
     requires point { point ≡ micro_point numeral.now }
-    requires few { point ≤ most_digits }
+    requires short { point ≤ most_digits }
     ensures { result ≡ min (micros numeral.now) greatest }
 {
     let (whole, fraction) = (numeral.whole(), numeral.fraction());

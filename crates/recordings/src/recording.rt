@@ -1,4 +1,4 @@
-//! A recording.
+//! `Recording`: the size and the events of a terminal, read from an input.
 ghost use Rattle.std.specs.Prelude.{◌≡◌, IfOk, map};
 ghost use Rattle.recordings.specs.RecordingView.{reading_of, recording_value};
 ghost use Rattle.recordings.specs.Recordings.{bad_recording, bytes_recording, lines_of, lines_read, reading_first};

@@ -1,4 +1,4 @@
-//! Operating system commands, read and written.
+//! Commands of the operating system (OSC), read and written.
 use crate::outcome::{Outcome, all};
 use crate::tally::Tally;
 use escape_osc::OperatingSystemCommand;

@@ -8,8 +8,9 @@
 //!
 //! - `cells`: cells, attributes, links and colours.
 //! - `changes`: changes, and sequences of them that know where they leave the cursor.
-//! - `commands`: Operating system commands, read and written.
-//! - `copies`: copies of cells, attributes and changes: what was to become a copy and is refused stays as it was.
+//! - `commands`: commands of the operating system (OSC), read and written.
+//! - `copies`: copies of cells, attributes and changes: what was to become a copy and is refused stays as it
+//!   was.
 //! - `edits`: edits of lines: a refused one leaves a lawful line with its number.
 //! - `lines`: makers and queries of lines.
 //! - `outcome`: what a check comes to.
@@ -18,10 +19,11 @@
 //! - `sequences`: control sequences: after a refusal the actions of a list end.
 //! - `sink`: a writer that takes no memory.
 //! - `streams`: parsers, which have failed once they were refused memory, and lists of actions.
-//! - `surfaces`: a changing call that is refused memory leaves a surface that has failed, any other an unchanged one.
+//! - `surfaces`: a changing call that is refused memory leaves a surface that has failed, any other an
+//!   unchanged one.
 //! - `tally`: which checks were wrong.
-//! - `terminals`: one whose bytes, look or size were refused memory has failed; one whose answer was is as after a
-//!   look.
+//! - `terminals`: terminals that are refused memory: for bytes, a look or a size, and then they have failed; or
+//!   for an answer, and then they are as after a look.
 //! - `unrefused`: calls that take no memory, on values that are made before: after these every request may be
 //!   refused.
 //! - `unrefused_screens`: calls of lines, surfaces, terminals and watched readers that take no memory.

@@ -110,11 +110,11 @@ fn short(alloc: Global, is_early: bool) -> Outcome {
     play_short(alloc, &mut terminal, &shown, is_early)
 }
 
-// How many pieces the long script has.
-const PIECES: usize = 8;
+// How many chunks the long script has.
+const CHUNKS: usize = 8;
 
-// A piece of the long script.
-fn piece(index: usize) -> &'static [u8] {
+// A chunk of the long script.
+fn chunk(index: usize) -> &'static [u8] {
     match index {
         0 => b"\x1b]2;first\x1b\\one\r\ntwo",
         1 => b"\x1b[1;38;5;9mred\x1b[m\x1b]8;;http://example.com\x1b\\link",
@@ -228,7 +228,7 @@ fn resize(alloc: Global, terminal: &mut Plain) -> Result<(), Stop> {
     }
 }
 
-// A piece of the long script, and an answer that the viewer reads; both become narrower after the fifth.
+// A chunk of the long script, and an answer that the viewer reads; both become narrower after the fifth.
 fn step(
     alloc: Global,
     terminal: &mut Plain,
@@ -236,7 +236,7 @@ fn step(
     number: SequenceNo,
     index: usize,
 ) -> Result<SequenceNo, Stop> {
-    read(alloc, terminal, piece(index))?;
+    read(alloc, terminal, chunk(index))?;
     let number = answer(alloc, terminal, viewer, number, matches!(index, 1 | 4 | 7))?;
     go_on_if_right(Ok(terminal.take_replies().as_slice() == replies_to(index)))?;
     if index == 4 {
@@ -250,7 +250,7 @@ fn step(
 // The long script on two new terminals.
 fn play_long(alloc: Global, terminal: &mut Plain, viewer: &mut Plain) -> Outcome {
     let mut number = 0;
-    for index in 0..PIECES {
+    for index in 0..CHUNKS {
         number = step(alloc, terminal, viewer, number, index)?;
     }
     Ok(true)

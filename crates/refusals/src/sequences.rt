@@ -84,7 +84,7 @@ fn rests(alloc: Global) -> Outcome {
 }
 
 // The sequence at the start of some bytes, and its copy.
-fn fronts(alloc: Global) -> Outcome {
+fn prefixes(alloc: Global) -> Outcome {
     let Some(prefix) = read_csi(alloc, b"\x1b[1;3mx")? else {
         return Ok(false);
     };
@@ -133,9 +133,9 @@ fn pairs(alloc: Global) -> Outcome {
 pub fn check<W: Write>(alloc: Global, tally: &mut Tally<W>) {
     tally.take("lists with a rest", lists_with_a_rest(alloc));
     tally.take("lists left whole", lists_left_whole(alloc));
-    tally.take("requests, modes and places", other_lists(alloc));
+    tally.take("requests, modes and positions", other_lists(alloc));
     tally.take("rests of lists", rests(alloc));
-    tally.take("fronts", fronts(alloc));
+    tally.take("prefixes", prefixes(alloc));
     tally.take("cracked lists", cracked(alloc));
     tally.take("sequences without memory", without_memory(alloc));
     tally.take("ESC pairs", pairs(alloc));

@@ -1,4 +1,5 @@
-//! Terminals: one whose bytes, look or size were refused memory has failed; one whose answer was is as after a look.
+//! Terminals that are refused memory: for bytes, a look or a size, and then they have failed; or for an answer, and
+//! then they are as after a look.
 use crate::changes::{CHANGES, change_of};
 use crate::outcome::{Outcome, Stop, all, hold, refused};
 use crate::tally::Tally;
@@ -19,11 +20,11 @@ const ROWS: &str = "    \n\u{304b}xy\nz   \n";
 
 const REPLIES: &[u8] = b"\x1b[1;4R";
 
-/// A number, and bytes that are sent.
-pub type Sent = (SequenceNo, Vec<u8>);
+/// A number, and the bytes of an update or a patch.
+pub type Encoded = (SequenceNo, Vec<u8>);
 
 /// What `update` and `patch` answer.
-pub type Answer = Result<Sent, TerminalError>;
+pub type Answer = Result<Encoded, TerminalError>;
 
 /// A patch from another terminal, of the same size; of another size it answers `Number`.
 pub fn patched(terminal: &mut Plain, shown: &Plain) -> Answer {
@@ -138,7 +139,7 @@ fn resized(alloc: Global) -> Outcome {
 }
 
 // Whether two answers have the same number and bytes.
-fn is_same(answer: &Sent, other: &Sent) -> bool {
+fn is_same(answer: &Encoded, other: &Encoded) -> bool {
     answer.0 == other.0 && answer.1.as_slice() == other.1.as_slice()
 }
 
@@ -163,13 +164,18 @@ pub fn ask(terminal: &mut Plain, shown: &Plain, number: SequenceNo, is_patch: bo
 }
 
 // What is answered on the stream.
-fn whole(alloc: Global, shown: &Plain, number: SequenceNo, is_patch: bool) -> Result<Sent, Stop> {
+fn whole(
+    alloc: Global,
+    shown: &Plain,
+    number: SequenceNo,
+    is_patch: bool,
+) -> Result<Encoded, Stop> {
     let mut terminal = fed(alloc)?;
     Ok(ask(&mut terminal, shown, number, is_patch)?)
 }
 
 // What follows an answer that was refused: where its bytes were, a second call gives them.
-fn again(error: TerminalError, terminal: &mut Plain, answer: Answer, whole: &Sent) -> Outcome {
+fn again(error: TerminalError, terminal: &mut Plain, answer: Answer, whole: &Encoded) -> Outcome {
     let is_whole = is_same(&answer?, whole);
     refused(Stop::from(error), is_whole && is_settled(terminal)?)
 }

@@ -2,7 +2,7 @@
 use Rattle.std.specs.Prelude.{ℕ, ◌≤◌, ◌^◌, Bool, List, [], ◌∷◌, if◌then◌else◌}
 use Rattle.clap.specs.Words.{Text}
 use Rattle.cell_base.specs.Cluster.{program_width}
-use Rattle.terminal.specs.Sent.{number_after}
+use Rattle.terminal.specs.Written.{number_after}
 use Rattle.terminal.specs.Shown.{rows_shown}
 use Rattle.terminal_table.specs.History.{Piece, Look}
 use Rattle.terminal_table.specs.Logged.{log_of}

@@ -3,6 +3,7 @@ ghost use Rattle.std.specs.Prelude.{false, ◌≡◌, ◌≢◌, ◌⊎◌, ◌�
 ghost use Rattle.std.specs.Prelude.{IfSome, IsErrOf, IsTrue, OnOk, OnErr};
 ghost use Rattle.std.specs.Io.KnownBytes.{Appends, Keeps};
 ghost use Rattle.terminal.specs.Shown.{AppendsPrefix};
+ghost use Rattle.terminal.specs.Watched.{IsUnread};
 ghost use Rattle.clap.specs.Words.{IsAmong, kind_of};
 ghost use Rattle.relay.specs.CommandLine.{HasMistake, faults_in};
 ghost use Rattle.relay.specs.Faults.{IsReported, fault_line, fault_text};
@@ -119,8 +120,7 @@ fn answer<R: Read, T: Write>(
     reader: &mut Watched<R>,
     writer: &mut Watched<T>,
 ) -> Result<(), RunError>
-    requires reader { reader.old.has_failed ≡ false }
-    requires unread { reader.old.reads ≡ 0 }
+    requires reader { IsUnread reader.old }
     requires writer { writer.old.has_failed ≡ false }
     ensures ok { OnOk result
         (IfSome (R.remaining reader.old.inner)
@@ -161,8 +161,7 @@ fn relay<S: AsStr, R: Read, T: Write, F: Write>(
     writer: &mut Watched<T>,
     faults: &mut Watched<F>,
 ) -> u8
-    requires reader { reader.old.has_failed ≡ false }
-    requires unread { reader.old.reads ≡ 0 }
+    requires reader { IsUnread reader.old }
     requires writer { writer.old.has_failed ≡ false }
     ensures status { result ≤ 2 }
     ensures runs { faults_in (map S.text words.now) ≡ [] → result ≤ 1 }

@@ -1,4 +1,5 @@
-//! Laws of differences: each is the contract of a function that does nothing.
+//! Laws of differences: they show the new side, and print its cells. Each is the contract of a function that does
+//! nothing.
 ghost use Rattle.std.specs.Prelude.{◌≡◌, ℕ, List, [], ◌∷◌, true, map, All};
 ghost use Rattle.unicode_segmentation.specs.Grapheme.{graphemes};
 ghost use Rattle.cell_base.specs.Row.{Row, space};

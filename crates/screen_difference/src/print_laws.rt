@@ -1,4 +1,5 @@
-//! Laws of what is printed: each is the contract of a function that does nothing.
+//! Laws of what changes print, and where; a difference prints the fresh cells and no others. Each is the contract of a
+//! function that does nothing.
 ghost use Rattle.std.specs.Prelude.{◌≡◌, ℕ, ◌++◌, false, List, map, All};
 ghost use Rattle.cell_base.specs.Row.{row_text, space};
 ghost use Rattle.cell_base.specs.Screen.{Screen, cluster_columns, height, put, write_columns};

@@ -1,19 +1,17 @@
 //! Cells that are passed while new cells are compared with them.
-ghost use Rattle.std.specs.Prelude.{◌≡◌, ◌+◌, ◌-◌, ◌<◌, ◌≤◌, ◌++◌, length, IfSome, MatchOption};
-ghost use Rattle.cell_edits.specs.VisibleCells.{visible_each};
+ghost use Rattle.std.specs.Prelude.{◌≡◌, ◌+◌, ◌<◌, ◌≤◌};
 ghost use Rattle.cell_views.specs.CellRefView.{shown_by};
 ghost use Rattle.cell_views.specs.Region.{region_left};
 ghost use Rattle.screen_difference.specs.ShownCells.{begins_with, from_column, shown_left, side_by_side, Fits};
 ghost use Rattle.screen_difference.specs.ShownCells.{HaveRoom};
 
-use cell_base::CellAttributes;
 use cell_line::{CellRef, RegionIter};
 
 /// The visible cells of a part of a line, side by side, of which the ones before `column` are passed.
 #[derive(Drop)]
 pub(crate) struct ShownCells<'a> {
-    column: usize,
-    cells: RegionIter<'a>,
+    pub(crate) column: usize,
+    pub(crate) cells: RegionIter<'a>,
 }
 
 impl<'a> ShownCells<'a> {
@@ -24,21 +22,6 @@ impl<'a> ShownCells<'a> {
         ensures fits { Fits result }
     {
         ShownCells { column, cells }
-    }
-
-    /// Passes the next plain cells, at most `most`.
-    pub(crate) fn pass_plain(&mut self, most: usize) -> Option<(&'a str, &'a CellAttributes)>
-        requires { Fits self.old }
-        ensures left { MatchOption result (shown_left self.new ≡ shown_left self.old) (λ run.
-            shown_left self.old ≡ visible_each self.old.column run.0.now run.1.now ++ shown_left self.new) }
-        ensures column { MatchOption result (self.new.column ≡ self.old.column) (λ run.
-            self.new.column ≡ self.old.column + length run.0.now) }
-        ensures some { IfSome result (λ run. (0 < length run.0.now) × (length run.0.now ≤ most)) }
-        ensures fits { Fits self.new }
-    {
-        let (text, attrs) = self.cells.pass_plain(most)?;
-        self.column += text.len();
-        Some((text, attrs))
     }
 
     // Passes the first cell and says whether it is the same as another one.
@@ -82,13 +65,6 @@ impl<'a> ShownCells<'a> {
         while self.column < column {
             self.pass_some(column);
         }
-    }
-
-    /// How many columns there are from `column` on before the remaining cells.
-    pub(crate) fn gap(&self, column: usize) -> usize
-        ensures { result ≡ self.now.column - column }
-    {
-        self.column.saturating_sub(column)
     }
 
     /// Whether a cell begins at a column and is the same as another one. The cells that begin before the column and

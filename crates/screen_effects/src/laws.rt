@@ -1,4 +1,4 @@
-//! Laws of effects: each is the contract of a function that does nothing.
+//! Laws of effects: displays stay lawful. Each is the contract of a function that does nothing.
 ghost use Rattle.std.specs.Prelude.{◌≡◌, ℕ, ◌<◌, List};
 ghost use Rattle.screen_change.specs.ChangeValue.{ChangeValue};
 ghost use Rattle.screen_effects.specs.Display.{Display, IsDisplay, new_display};

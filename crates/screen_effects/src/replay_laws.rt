@@ -1,4 +1,5 @@
-//! Laws of cells that are written: each is the contract of a function that does nothing.
+//! Laws of what changes that write cells do to a display; repaints and differences build on them. Each is the contract
+//! of a function that does nothing.
 ghost use Rattle.std.specs.Prelude.{◌≡◌, ℕ, ◌+◌, ◌<◌, ◌≤◌, List, length};
 ghost use Rattle.cell_base.specs.CellContent.{CellContent};
 ghost use Rattle.screen_change.specs.CellChanges.{cells_written};

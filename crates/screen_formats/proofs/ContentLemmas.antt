@@ -1,4 +1,4 @@
--- What is read of pieces.
+-- What is read of tokens.
 use Rattle.std.proofs.Common.{◌≡◌, ℕ, Bool, true, false, List, [], ◌∷◌, ◌++◌, refl, sym, ap, ◌∙◌, subst, append_assoc}
 use Rattle.std.specs.Prelude.{◌||◌, ◌==◌, Option, Some, None, unwrap_or, if◌then◌else◌, codes, length}
 use Rattle.std.specs.List.{flat_map, list_any}
@@ -7,9 +7,9 @@ use Rattle.std.specs.Str.{chars}
 use Rattle.std.proofs.lemmas.Bool.{eqb-true, or_parts}
 use Rattle.std.proofs.lemmas.List.Folds.{list_any-append}
 use Rattle.cell_edits.proofs.CellLemmas.{by_test}
-use Rattle.screen_formats.specs.Content.{untagged, content, piece_content, pieces_content, is_end, AreNamed, IsNamed, AreTagged}
+use Rattle.screen_formats.specs.Content.{untagged, content, token_content, tokens_content, is_end, AreNamed, IsNamed, AreTagged}
 use Rattle.screen_formats.specs.Escape.{entity_of, escaped, escaped_char, held, is_markup, put_before, read_after}
-use Rattle.screen_formats.specs.Pieces.{Attribute, Piece, Opening, Closing, Words, attribute_text, piece_text, pieces_text}
+use Rattle.screen_formats.specs.Tokens.{Attribute, Token, Opening, Closing, Words, attribute_text, token_text, tokens_text}
 use Rattle.screen_formats.specs.declared.escape.Markup.{Markup}
 use Rattle.screen_formats.proofs.EscapeLemmas.{is_special, own_bytes, text_back}
 
@@ -92,43 +92,43 @@ attributes_closed : (markup : Markup) (attributes : List Attribute) → AreNamed
 attributes_closed markup [] named = refl
 attributes_closed markup (a ∷ attributes) named = joined is_end (attribute_text markup a) (flat_map (attribute_text markup) attributes) (attribute_closed markup a named.0) (attributes_closed markup attributes named.1)
 
--- ---- pieces
+-- ---- tokens
 
--- what is left of a piece without its tags
-abbrev bare : Markup → Piece → List ℕ
+-- what is left of a token without its tags
+abbrev bare : Markup → Token → List ℕ
 bare markup (Opening name attributes) = []
 bare markup (Closing name) = []
 bare markup (Words text) = escaped markup text
 
-bare_piece : (markup : Markup) (piece : Piece) (rest : List ℕ) → IsNamed piece → untagged false (piece_text markup piece ++ rest) ≡ bare markup piece ++ untagged false rest
-bare_piece markup (Opening name attributes) rest named =
+bare_token : (markup : Markup) (token : Token) (rest : List ℕ) → IsNamed token → untagged false (token_text markup token ++ rest) ≡ bare markup token ++ untagged false rest
+bare_token markup (Opening name attributes) rest named =
     let inside = name ++ flat_map (attribute_text markup) attributes in
     ap (untagged true) (append_assoc inside (62 ∷ []) rest)
     ∙ untagged_tag inside rest (joined is_end name (flat_map (attribute_text markup) attributes) named.0 (attributes_closed markup attributes named.1))
-bare_piece markup (Closing name) rest named = ap (untagged true) (append_assoc (47 ∷ name) (62 ∷ []) rest) ∙ untagged_tag (47 ∷ name) rest named
-bare_piece markup (Words text) rest named = untagged_text (escaped markup text) rest (text_closed markup text)
+bare_token markup (Closing name) rest named = ap (untagged true) (append_assoc (47 ∷ name) (62 ∷ []) rest) ∙ untagged_tag (47 ∷ name) rest named
+bare_token markup (Words text) rest named = untagged_text (escaped markup text) rest (text_closed markup text)
 
-bare_pieces : (markup : Markup) (pieces : List Piece) → AreTagged pieces → untagged false (flat_map (piece_text markup) pieces) ≡ flat_map (bare markup) pieces
-bare_pieces markup [] named = refl
-bare_pieces markup (piece ∷ pieces) named =
-    bare_piece markup piece (flat_map (piece_text markup) pieces) named.0
-    ∙ ap (λ (t : List ℕ). bare markup piece ++ t) (bare_pieces markup pieces named.1)
+bare_tokens : (markup : Markup) (tokens : List Token) → AreTagged tokens → untagged false (flat_map (token_text markup) tokens) ≡ flat_map (bare markup) tokens
+bare_tokens markup [] named = refl
+bare_tokens markup (token ∷ tokens) named =
+    bare_token markup token (flat_map (token_text markup) tokens) named.0
+    ∙ ap (λ (t : List ℕ). bare markup token ++ t) (bare_tokens markup tokens named.1)
 
 put_nothing : (text : Option (List ℕ)) → put_before [] text ≡ text
 put_nothing None = refl
 put_nothing (Some t) = refl
 
-piece_back : (markup : Markup) (piece : Piece) (rest : List ℕ) → read_after None (bare markup piece ++ rest) ≡ put_before (piece_content markup piece) (read_after None rest)
-piece_back markup (Opening name attributes) rest = sym (put_nothing (read_after None rest))
-piece_back markup (Closing name) rest = sym (put_nothing (read_after None rest))
-piece_back markup (Words text) rest = text_back markup text rest
+token_back : (markup : Markup) (token : Token) (rest : List ℕ) → read_after None (bare markup token ++ rest) ≡ put_before (token_content markup token) (read_after None rest)
+token_back markup (Opening name attributes) rest = sym (put_nothing (read_after None rest))
+token_back markup (Closing name) rest = sym (put_nothing (read_after None rest))
+token_back markup (Words text) rest = text_back markup text rest
 
-pieces_back : (markup : Markup) (pieces : List Piece) → read_after None (flat_map (bare markup) pieces) ≡ Some (pieces_content markup pieces)
-pieces_back markup [] = refl
-pieces_back markup (piece ∷ pieces) =
-    piece_back markup piece (flat_map (bare markup) pieces)
-    ∙ ap (put_before (piece_content markup piece)) (pieces_back markup pieces)
+tokens_back : (markup : Markup) (tokens : List Token) → read_after None (flat_map (bare markup) tokens) ≡ Some (tokens_content markup tokens)
+tokens_back markup [] = refl
+tokens_back markup (token ∷ tokens) =
+    token_back markup token (flat_map (bare markup) tokens)
+    ∙ ap (put_before (token_content markup token)) (tokens_back markup tokens)
 
-pub content_back : (markup : Markup) (pieces : List Piece) → AreTagged pieces → content (pieces_text markup pieces) ≡ Some (pieces_content markup pieces)
-unfolding pieces_text
-content_back markup pieces named = ap (read_after None) (bare_pieces markup pieces named) ∙ pieces_back markup pieces
+pub content_back : (markup : Markup) (tokens : List Token) → AreTagged tokens → content (tokens_text markup tokens) ≡ Some (tokens_content markup tokens)
+unfolding tokens_text
+content_back markup tokens named = ap (read_after None) (bare_tokens markup tokens named) ∙ tokens_back markup tokens

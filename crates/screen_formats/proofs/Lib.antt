@@ -1,7 +1,7 @@
 pub mod ContentLemmas
 pub mod EscapeLemmas
 pub mod JsonLemmas
-pub mod PieceLemmas
+pub mod TokenLemmas
 pub mod RunLemmas
 pub mod ScreenContent
 pub mod SvgLemmas

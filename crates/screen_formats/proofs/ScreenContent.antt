@@ -10,35 +10,35 @@ use Rattle.cell_base.specs.Row.{Row}
 use Rattle.cell_base.specs.Screen.{Screen}
 use Rattle.cell_edits.specs.VisibleCells.{visible_cells}
 use Rattle.screen_formats.specs.Colors.{default_background, default_foreground, has_background, hex_color, paper}
-use Rattle.screen_formats.specs.Content.{AreTagged, content, html_content, is_end, piece_content, pieces_content, row_content, svg_content}
+use Rattle.screen_formats.specs.Content.{AreTagged, content, html_content, is_end, token_content, tokens_content, row_content, svg_content}
 use Rattle.screen_formats.specs.Escape.{held_text}
-use Rattle.screen_formats.specs.Html.{html_pieces, html_row, html_rows, html_run, html_text}
+use Rattle.screen_formats.specs.Html.{html_tokens, html_row, html_rows, html_run, html_text}
 use Rattle.screen_formats.specs.Links.{link_uri}
-use Rattle.screen_formats.specs.Pieces.{Piece, Opening, Closing, Words, element}
+use Rattle.screen_formats.specs.Tokens.{Token, Opening, Closing, Words, element}
 use Rattle.screen_formats.specs.Runs.{Run, runs_of}
-use Rattle.screen_formats.specs.Svg.{column_units, placed_text, rectangle, row_units, sized_opening, svg_cursor, svg_head, svg_letters, svg_opening, svg_paper, svg_part, svg_pieces, svg_row, svg_rows, svg_text, svg_text_of, Text}
+use Rattle.screen_formats.specs.Svg.{column_units, placed_text, rectangle, row_units, sized_opening, svg_cursor, svg_head, svg_letters, svg_opening, svg_paper, svg_part, svg_tokens, svg_row, svg_rows, svg_text, svg_text_of, Text}
 use Rattle.screen_formats.specs.declared.escape.Markup.{Markup}
 use Rattle.screen_formats.specs.declared.escape.Markup.TheVariants.{Html, Xml}
 use Rattle.screen_formats.proofs.ContentLemmas.{content_back}
 
--- ---- pieces, and what they hold
+-- ---- tokens, and what they hold
 
--- the pieces are named, and hold this text
-abbrev Holds : Markup → List Piece → List ℕ → Type 0
-Holds markup pieces text = AreTagged pieces × (pieces_content markup pieces ≡ text)
+-- the tokens are named, and hold this text
+abbrev Holds : Markup → List Token → List ℕ → Type 0
+Holds markup tokens text = AreTagged tokens × (tokens_content markup tokens ≡ text)
 
-tagged_both : (xs ys : List Piece) → AreTagged xs → AreTagged ys → AreTagged (xs ++ ys)
+tagged_both : (xs ys : List Token) → AreTagged xs → AreTagged ys → AreTagged (xs ++ ys)
 tagged_both [] ys p q = q
 tagged_both (x ∷ xs) ys p q = (p.0, tagged_both xs ys p.1 q)
 
-holds_both : (markup : Markup) (xs ys : List Piece) (text rest : List ℕ) → Holds markup xs text → Holds markup ys rest → Holds markup (xs ++ ys) (text ++ rest)
-holds_both markup xs ys text rest p q = (tagged_both xs ys p.0 q.0, flat_map-append (piece_content markup) xs ys ∙ (λ i. p.1 i ++ q.1 i))
+holds_both : (markup : Markup) (xs ys : List Token) (text rest : List ℕ) → Holds markup xs text → Holds markup ys rest → Holds markup (xs ++ ys) (text ++ rest)
+holds_both markup xs ys text rest p q = (tagged_both xs ys p.0 q.0, flat_map-append (token_content markup) xs ys ∙ (λ i. p.1 i ++ q.1 i))
 
-holds_each : {A : Type 0} (markup : Markup) (f : A → List Piece) (text : A → List ℕ) → ((x : A) → Holds markup (f x) (text x)) → (xs : List A) → Holds markup (flat_map f xs) (flat_map text xs)
+holds_each : {A : Type 0} (markup : Markup) (f : A → List Token) (text : A → List ℕ) → ((x : A) → Holds markup (f x) (text x)) → (xs : List A) → Holds markup (flat_map f xs) (flat_map text xs)
 holds_each markup f text each [] = (tt, refl)
 holds_each markup f text each (x ∷ xs) = holds_both markup (f x) (flat_map f xs) (text x) (flat_map text xs) (each x) (holds_each markup f text each xs)
 
-holds_none : {A : Type 0} (markup : Markup) (f : A → List Piece) → ((x : A) → Holds markup (f x) []) → (xs : List A) → Holds markup (flat_map f xs) []
+holds_none : {A : Type 0} (markup : Markup) (f : A → List Token) → ((x : A) → Holds markup (f x) []) → (xs : List A) → Holds markup (flat_map f xs) []
 holds_none markup f each [] = (tt, refl)
 holds_none markup f each (x ∷ xs) = holds_both markup (f x) (flat_map f xs) [] [] (each x) (holds_none markup f each xs)
 
@@ -67,14 +67,14 @@ html_row_holds row =
     let runs = runs_of (visible_cells row) in
     holds_both Html (flat_map html_run runs) (Words (10 ∷ []) ∷ []) (row_content Html row) (10 ∷ []) (holds_each Html html_run (λ run. held_text Html run.text) run_holds runs) (line_feed Html)
 
-html_holds : (screen : Screen) → Holds Html (html_pieces screen) (html_content screen)
+html_holds : (screen : Screen) → Holds Html (html_tokens screen) (html_content screen)
 html_holds screen =
     let rows = holds_each Html html_row (λ row. row_content Html row ++ 10 ∷ []) html_row_holds screen.rows in
     let all = holds_both Html (html_rows screen.rows) (Closing (codes "pre") ∷ Words (10 ∷ []) ∷ []) (flat_map (λ row. row_content Html row ++ 10 ∷ []) screen.rows) (10 ∷ []) rows (closing Html (codes "pre") refl) in
     (((refl, (refl, (refl, tt))), all.0), all.1)
 
 pub html_read : (screen : Screen) → content (html_text screen) ≡ Some (html_content screen)
-html_read screen = content_back Html (html_pieces screen) (html_holds screen).0 ∙ ap Some (html_holds screen).1
+html_read screen = content_back Html (html_tokens screen) (html_holds screen).0 ∙ ap Some (html_holds screen).1
 
 -- ---- SVG
 
@@ -86,13 +86,13 @@ letters_hold : (row : ℕ) (run : Run) → Holds Xml (svg_letters row run) (held
 unfolding placed_text
 letters_hold row run = (((refl, (refl, (refl, (refl, (refl, (refl, (refl, tt))))))), (tt, (refl, tt))), append-nil (held_text Xml run.text))
 
-either : (b : Bool) (xs ys : List Piece) (text : List ℕ) → Holds Xml xs text → Holds Xml ys text → Holds Xml (if b then xs else ys) text
+either : (b : Bool) (xs ys : List Token) (text : List ℕ) → Holds Xml xs text → Holds Xml ys text → Holds Xml (if b then xs else ys) text
 either true xs ys text p q = p
 either false xs ys text p q = q
 
-in_link : (uri : Text) (pieces : List Piece) (text : List ℕ) → Holds Xml pieces text → Holds Xml (Opening (codes "a") ((codes "href", uri) ∷ []) ∷ (pieces ++ Closing (codes "a") ∷ [])) text
-in_link uri pieces text p =
-    let all = holds_both Xml pieces (Closing (codes "a") ∷ []) text [] p ((refl, tt), refl) in
+in_link : (uri : Text) (tokens : List Token) (text : List ℕ) → Holds Xml tokens text → Holds Xml (Opening (codes "a") ((codes "href", uri) ∷ []) ∷ (tokens ++ Closing (codes "a") ∷ [])) text
+in_link uri tokens text p =
+    let all = holds_both Xml tokens (Closing (codes "a") ∷ []) text [] p ((refl, tt), refl) in
     (((refl, (refl, tt)), all.0), all.1 ∙ append-nil text)
 
 text_holds : (row : ℕ) (run : Run) → Holds Xml (svg_text_of row run) (held_text Xml run.text)
@@ -134,7 +134,7 @@ prefix_holds width height title =
     let all = holds_both Xml (svg_opening width height) (element (codes "title") [] title ++ after) [] (held_text Xml title ++ []) (opening_holds width height) titled in
     (all.0, all.1 ∙ append-nil (held_text Xml title))
 
-svg_holds : (screen : Screen) → Holds Xml (svg_pieces screen) (svg_content screen)
+svg_holds : (screen : Screen) → Holds Xml (svg_tokens screen) (svg_content screen)
 svg_holds screen =
     let width = column_units screen.width in
     let height = row_units (length screen.rows) in
@@ -144,4 +144,4 @@ svg_holds screen =
     holds_both Xml (svg_head width height screen.title) (svg_rows 0 screen.rows ++ (svg_cursor screen ++ closed)) (held_text Xml screen.title) (flat_map (row_content Xml) screen.rows ++ 10 ∷ []) (prefix_holds width height screen.title) rows
 
 pub svg_read : (screen : Screen) → content (svg_text screen) ≡ Some (svg_content screen)
-svg_read screen = content_back Xml (svg_pieces screen) (svg_holds screen).0 ∙ ap Some (svg_holds screen).1
+svg_read screen = content_back Xml (svg_tokens screen) (svg_holds screen).0 ∙ ap Some (svg_holds screen).1

@@ -55,12 +55,12 @@ color_codes a =
 -- ---- runs and rows
 
 -- a URI that holds nothing but printable ASCII
-abbrev pub sent_uri : Text → Text
-sent_uri uri = if list_all is_printable uri then uri else []
+abbrev pub printable_uri : Text → Text
+printable_uri uri = if list_all is_printable uri then uri else []
 
 -- in a link, where there is one
-unfoldable pub sent_text : Text → Text → Text
-sent_text uri text =
+unfoldable pub linked_text : Text → Text → Text
+linked_text uri text =
     if length uri == 0 then text else 27 ∷ (codes "]8;;" ++ (uri ++ 27 ∷ 92 ∷ (text ++ 27 ∷ codes "]8;;\u{1b}\\")))
 
 unfoldable pub ansi_run : Run → Text
@@ -68,7 +68,7 @@ ansi_run run =
     27
     ∷ (codes "[0"
     ++ (rendition_codes run.attributes
-    ++ (color_codes run.attributes ++ 109 ∷ sent_text (sent_uri (link_uri run.attributes)) run.text)))
+    ++ (color_codes run.attributes ++ 109 ∷ linked_text (printable_uri (link_uri run.attributes)) run.text)))
 
 -- plain attributes and a line feed
 abbrev pub row_end : Text

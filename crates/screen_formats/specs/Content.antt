@@ -5,7 +5,7 @@ use Rattle.cell_base.specs.Row.{Row}
 use Rattle.cell_base.specs.Screen.{Screen}
 use Rattle.cell_edits.specs.VisibleCells.{visible_cells}
 use Rattle.screen_formats.specs.Escape.{held_text, unescaped}
-use Rattle.screen_formats.specs.Pieces.{Attribute, Piece, Opening, Closing, Words}
+use Rattle.screen_formats.specs.Tokens.{Attribute, Token, Opening, Closing, Words}
 use Rattle.screen_formats.specs.Runs.{runs_of}
 use Rattle.screen_formats.specs.declared.escape.Markup.{Markup}
 use Rattle.screen_formats.specs.declared.escape.Markup.TheVariants.{Html, Xml}
@@ -19,14 +19,14 @@ untagged false (b ∷ text) = if b == 60 then untagged true text else b ∷ unta
 abbrev pub content : List ℕ → Option (List ℕ)
 content text = unescaped (untagged false text)
 
--- what is read of pieces
-abbrev pub piece_content : Markup → Piece → List ℕ
-piece_content markup (Opening name attributes) = []
-piece_content markup (Closing name) = []
-piece_content markup (Words text) = held_text markup text
+-- what is read of tokens
+abbrev pub token_content : Markup → Token → List ℕ
+token_content markup (Opening name attributes) = []
+token_content markup (Closing name) = []
+token_content markup (Words text) = held_text markup text
 
-abbrev pub pieces_content : Markup → List Piece → List ℕ
-pieces_content markup pieces = flat_map (piece_content markup) pieces
+abbrev pub tokens_content : Markup → List Token → List ℕ
+tokens_content markup tokens = flat_map (token_content markup) tokens
 
 -- ---- names that end no tag
 
@@ -37,14 +37,14 @@ abbrev pub AreNamed : List Attribute → Type 0
 AreNamed [] = ⊤
 AreNamed (a ∷ attributes) = (list_any is_end a.0 ≡ false) × AreNamed attributes
 
-abbrev pub IsNamed : Piece → Type 0
+abbrev pub IsNamed : Token → Type 0
 IsNamed (Opening name attributes) = (list_any is_end name ≡ false) × AreNamed attributes
 IsNamed (Closing name) = list_any is_end name ≡ false
 IsNamed (Words text) = ⊤
 
-abbrev pub AreTagged : List Piece → Type 0
+abbrev pub AreTagged : List Token → Type 0
 AreTagged [] = ⊤
-AreTagged (piece ∷ pieces) = IsNamed piece × AreTagged pieces
+AreTagged (token ∷ tokens) = IsNamed token × AreTagged tokens
 
 -- ---- screens
 

@@ -9,7 +9,7 @@ use Rattle.cell_edits.specs.VisibleCells.{visible_cells}
 use Rattle.screen_formats.specs.Colors.{default_background, default_foreground, has_background, hex_color, ink, paper}
 use Rattle.screen_formats.specs.Links.{link_uri}
 use Rattle.screen_formats.specs.Renditions.{color_style, rendition_style, rendition_words}
-use Rattle.screen_formats.specs.Pieces.{Piece, Opening, Closing, Words, element, pieces_text}
+use Rattle.screen_formats.specs.Tokens.{Token, Opening, Closing, Words, element, tokens_text}
 use Rattle.screen_formats.specs.Runs.{Run, runs_of}
 use Rattle.screen_formats.specs.declared.escape.Markup.TheVariants.{Html}
 
@@ -36,20 +36,20 @@ html_style a is_set columns = ink_style a ++ (background_style a ++ (rendition_s
 abbrev pub html_name : List ℕ → List ℕ
 html_name uri = if length uri == 0 then codes "span" else codes "a"
 
-abbrev pub html_element : List ℕ → List ℕ → List ℕ → List ℕ → List Piece
+abbrev pub html_element : List ℕ → List ℕ → List ℕ → List ℕ → List Token
 html_element uri words style text =
     element (html_name uri) ((codes "href", uri) ∷ (codes "class", words) ∷ (codes "style", style) ∷ []) text
 
-unfoldable pub html_run : Run → List Piece
+unfoldable pub html_run : Run → List Token
 html_run run =
     html_element (link_uri run.attributes) (rendition_words run.attributes)
     (html_style run.attributes (is_uneven run) run.columns) run.text
 
 -- the runs of a row, and a line feed
-abbrev pub html_row : Row → List Piece
+abbrev pub html_row : Row → List Token
 html_row row = flat_map html_run (runs_of (visible_cells row)) ++ Words (10 ∷ []) ∷ []
 
-abbrev pub html_rows : List Row → List Piece
+abbrev pub html_rows : List Row → List Token
 html_rows rows = flat_map html_row rows
 
 unfoldable pub screen_style : List ℕ
@@ -57,10 +57,10 @@ screen_style =
     color_style (codes "color") (hex_color default_foreground)
     ++ (color_style (codes "background-color") (hex_color default_background) ++ codes "line-height:1.25;")
 
-abbrev pub html_pieces : Screen → List Piece
-html_pieces screen =
+abbrev pub html_tokens : Screen → List Token
+html_tokens screen =
     Opening (codes "pre") ((codes "class", codes "screen") ∷ (codes "style", screen_style) ∷ []) ∷ html_rows screen.rows
     ++ Closing (codes "pre") ∷ Words (10 ∷ []) ∷ []
 
 abbrev pub html_text : Screen → List ℕ
-html_text screen = pieces_text Html (html_pieces screen)
+html_text screen = tokens_text Html (html_tokens screen)

@@ -6,7 +6,7 @@ pub mod Html
 pub mod Json
 pub mod Links
 pub mod Renditions
-pub mod Pieces
+pub mod Tokens
 pub mod RunSteps
 pub mod RunView
 pub mod Runs

@@ -9,7 +9,7 @@ use Rattle.cell_edits.specs.VisibleCells.{visible_cells}
 use Rattle.screen_formats.specs.Colors.{default_background, default_foreground, has_background, hex_color, ink, paper}
 use Rattle.screen_formats.specs.Links.{link_uri}
 use Rattle.screen_formats.specs.Renditions.{color_style, rendition_style, rendition_words}
-use Rattle.screen_formats.specs.Pieces.{Piece, Opening, Closing, Words, element, pieces_text}
+use Rattle.screen_formats.specs.Tokens.{Token, Opening, Closing, Words, element, tokens_text}
 use Rattle.screen_formats.specs.Runs.{Run, runs_of}
 use Rattle.screen_formats.specs.declared.escape.Markup.TheVariants.{Xml}
 
@@ -29,24 +29,24 @@ base_line row = decimal (20 * row + 15)
 
 -- ---- elements
 
-unfoldable pub rectangle : Text → Text → Text → Text → Text → Text → List Piece
+unfoldable pub rectangle : Text → Text → Text → Text → Text → Text → List Token
 rectangle x y width height fill opacity =
     element (codes "rect")
     ((codes "x", x) ∷ (codes "y", y) ∷ (codes "width", width) ∷ (codes "height", height) ∷ (codes "fill", fill)
     ∷ (codes "fill-opacity", opacity) ∷ []) []
 
 -- a text that is as long as its columns, of which no space is dropped
-unfoldable pub placed_text : Text → Text → Text → Text → Text → Text → List Piece
+unfoldable pub placed_text : Text → Text → Text → Text → Text → Text → List Token
 placed_text x y len words style text =
     element (codes "text")
     ((codes "x", x) ∷ (codes "y", y) ∷ (codes "textLength", len) ∷ (codes "xml:space", codes "preserve")
     ∷ (codes "class", words) ∷ (codes "style", style) ∷ []) text
 
 -- in a link, where there is one
-abbrev pub linked : Text → List Piece → List Piece
-linked uri pieces =
-    if length uri == 0 then pieces
-    else Opening (codes "a") ((codes "href", uri) ∷ []) ∷ (pieces ++ Closing (codes "a") ∷ [])
+abbrev pub linked : Text → List Token → List Token
+linked uri tokens =
+    if length uri == 0 then tokens
+    else Opening (codes "a") ((codes "href", uri) ∷ []) ∷ (tokens ++ Closing (codes "a") ∷ [])
 
 -- ---- runs
 
@@ -54,47 +54,47 @@ unfoldable pub svg_style : Attributes → Text
 svg_style a = color_style (codes "fill") (hex_color (ink a)) ++ rendition_style a
 
 -- the background of a run, if a colour is seen there
-unfoldable pub svg_paper : ℕ → Run → List Piece
+unfoldable pub svg_paper : ℕ → Run → List Token
 svg_paper row run =
     if has_background run.attributes
     then rectangle (column_units run.column) (row_units row) (column_units run.columns) (codes "20")
     (hex_color (paper run.attributes)) [] else []
 
-abbrev pub svg_letters : ℕ → Run → List Piece
+abbrev pub svg_letters : ℕ → Run → List Token
 svg_letters row run =
     placed_text (column_units run.column) (base_line row) (column_units run.columns) (rendition_words run.attributes)
     (svg_style run.attributes) run.text
 
-unfoldable pub svg_text_of : ℕ → Run → List Piece
+unfoldable pub svg_text_of : ℕ → Run → List Token
 svg_text_of row run = linked (link_uri run.attributes) (svg_letters row run)
 
 -- ---- the screen
 
 -- of a run its text, or its background
-abbrev pub svg_part : Bool → ℕ → Run → List Piece
+abbrev pub svg_part : Bool → ℕ → Run → List Token
 svg_part true row run = svg_text_of row run
 svg_part false row run = svg_paper row run
 
 -- the backgrounds of the runs come first, and then the texts, drawn over them
-abbrev pub svg_runs : ℕ → List Run → List Piece
+abbrev pub svg_runs : ℕ → List Run → List Token
 svg_runs row runs = flat_map (svg_part false row) runs ++ flat_map (svg_part true row) runs
 
-unfoldable pub svg_row : ℕ → Row → List Piece
+unfoldable pub svg_row : ℕ → Row → List Token
 svg_row row columns = svg_runs row (runs_of (visible_cells columns))
 
 -- the rows from a number on
-abbrev pub svg_rows : ℕ → List Row → List Piece
+abbrev pub svg_rows : ℕ → List Row → List Token
 svg_rows row [] = []
 svg_rows row (columns ∷ rows) = svg_row row columns ++ svg_rows (row + 1) rows
 
 -- the cursor, if it is shown; in the last column where a wrap is pending
-unfoldable pub svg_cursor : Screen → List Piece
+unfoldable pub svg_cursor : Screen → List Token
 svg_cursor screen =
     if screen.visible
     then rectangle (column_units (min screen.column (screen.width - 1))) (row_units screen.row) (codes "10")
     (codes "20") (hex_color default_foreground) (codes "0.5") else []
 
-unfoldable pub sized_opening : Text → Text → Text → List Piece
+unfoldable pub sized_opening : Text → Text → Text → List Token
 sized_opening width height view_box =
     Opening (codes "svg") (
     (codes "xmlns", codes "http://www.w3.org/2000/svg")
@@ -107,22 +107,22 @@ sized_opening width height view_box =
     ) ∷ []
 
 -- a picture of which all is seen
-unfoldable pub svg_opening : Text → Text → List Piece
+unfoldable pub svg_opening : Text → Text → List Token
 svg_opening width height = sized_opening width height (codes "0 0 " ++ (width ++ 32 ∷ height))
 
 -- the picture's size, the title, and what follows everything
-abbrev pub svg_head : Text → Text → Text → List Piece
+abbrev pub svg_head : Text → Text → Text → List Token
 svg_head width height title =
     svg_opening width height
     ++ (element (codes "title") [] title
     ++ rectangle (codes "0") (codes "0") width height (hex_color default_background) [])
 
-abbrev pub svg_pieces : Screen → List Piece
-svg_pieces screen =
+abbrev pub svg_tokens : Screen → List Token
+svg_tokens screen =
     svg_head (column_units screen.width) (row_units (length screen.rows)) screen.title
     ++ (svg_rows 0 screen.rows
     ++ (svg_cursor screen
     ++ (Closing (codes "svg") ∷ Words (10 ∷ []) ∷ [])))
 
 abbrev pub svg_text : Screen → List ℕ
-svg_text screen = pieces_text Xml (svg_pieces screen)
+svg_text screen = tokens_text Xml (svg_tokens screen)

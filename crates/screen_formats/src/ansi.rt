@@ -4,7 +4,7 @@ ghost use Rattle.std.specs.String.{string_bytes};
 ghost use Rattle.std.specs.List.{flat_map};
 ghost use Rattle.cell_surface.specs.Surface.{shown_by};
 ghost use Rattle.screen_formats.specs.Ansi.{ansi_row, ansi_run, ansi_text, color_code, color_codes, rendition_codes};
-ghost use Rattle.screen_formats.specs.Ansi.{sent_text, sent_uri, underline_color_code};
+ghost use Rattle.screen_formats.specs.Ansi.{linked_text, printable_uri, underline_color_code};
 
 use crate::links::link_uri;
 use crate::renditions::{
@@ -90,8 +90,8 @@ fn color_codes(alloc: Global, attrs: &CellAttributes) -> Result<String, AllocErr
 }
 
 // The URI, if it holds nothing but printable ASCII.
-fn sent_uri(uri: &str) -> &str
-    ensures { result.now ≡ sent_uri uri.now }
+fn printable_uri(uri: &str) -> &str
+    ensures { result.now ≡ printable_uri uri.now }
 {
     if are_printable(uri.as_bytes()) {
         uri
@@ -101,9 +101,9 @@ fn sent_uri(uri: &str) -> &str
 }
 
 // Writes a text, in a link where there is one.
-#[tactic(auto, unfolding(crate::specs::Ansi::sent_text))]
+#[tactic(auto, unfolding(crate::specs::Ansi::linked_text))]
 fn push_text(out: &mut String, uri: &str, text: &str) -> Result<(), AllocError>
-    ensures { OnOk result (string_bytes out.new ≡ string_bytes out.old ++ sent_text uri.now text.now) }
+    ensures { OnOk result (string_bytes out.new ≡ string_bytes out.old ++ linked_text uri.now text.now) }
 {
     if uri.is_empty() {
         out.push_str(text)?;
@@ -121,7 +121,7 @@ fn push_run(alloc: Global, out: &mut String, run: &Run<'_>) -> Result<(), AllocE
     let renditions = rendition_codes(alloc, run.attrs)?;
     let colors = color_codes(alloc, run.attrs)?;
     write!(out, "\x1b[0{renditions}{colors}m")?;
-    push_text(out, sent_uri(link_uri(run.attrs)), &run.text)?;
+    push_text(out, printable_uri(link_uri(run.attrs)), &run.text)?;
     Ok(())
 }
 

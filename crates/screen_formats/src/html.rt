@@ -4,15 +4,15 @@ ghost use Rattle.std.specs.String.{string_bytes};
 ghost use Rattle.cell_surface.specs.Surface.{shown_by};
 ghost use Rattle.screen_formats.specs.Html.{background_style, html_element, html_name, html_row, html_rows, html_run};
 ghost use Rattle.screen_formats.specs.Html.{html_style, html_text, ink_style, is_uneven, screen_style, width_style};
-ghost use Rattle.screen_formats.specs.Pieces.{pieces_text};
+ghost use Rattle.screen_formats.specs.Tokens.{tokens_text};
 ghost use Rattle.screen_formats.specs.declared.escape.Markup.TheVariants.{Html};
 
 use crate::colors::{DEFAULT_BACKGROUND, DEFAULT_FOREGROUND, has_background, ink, paper};
 use crate::escape::Markup;
 use crate::links::link_uri;
-use crate::pieces::{push_closing, push_element, push_opening, push_words};
 use crate::renditions::{color_style, rendition_style, rendition_words};
 use crate::runs::{Run, line_runs};
+use crate::tokens::{push_closing, push_element, push_opening, push_words};
 use cell_base::{CellAttributes, Widths};
 use cell_line::Line;
 use cell_surface::Surface;
@@ -91,7 +91,7 @@ fn push_html_element<'a>(
 ) -> Result<(), AllocError>
     ensures { OnOk result
         (string_bytes out.new ≡ string_bytes out.old
-        ++ pieces_text Html (html_element uri.now words.now style.now text.now)) }
+        ++ tokens_text Html (html_element uri.now words.now style.now text.now)) }
 {
     push_element(
         out,
@@ -106,7 +106,7 @@ fn push_html_element<'a>(
 // Writes a run.
 #[tactic(auto, unfolding(crate::specs::Html::html_run))]
 fn push_run(alloc: Global, out: &mut String, run: &Run<'_>) -> Result<(), AllocError>
-    ensures { OnOk result (string_bytes out.new ≡ string_bytes out.old ++ pieces_text Html (html_run run.now)) }
+    ensures { OnOk result (string_bytes out.new ≡ string_bytes out.old ++ tokens_text Html (html_run run.now)) }
 {
     let words = rendition_words(alloc, run.attrs)?;
     let style = html_style(alloc, run.attrs, is_uneven(run), run.columns)?;
@@ -117,7 +117,7 @@ fn push_run(alloc: Global, out: &mut String, run: &Run<'_>) -> Result<(), AllocE
 // Writes the runs of a line, and a line feed.
 fn push_row(alloc: Global, out: &mut String, line: &Line) -> Result<(), AllocError>
     ensures { OnOk result
-        (string_bytes out.new ≡ string_bytes out.old ++ pieces_text Html (html_row line.now.columns)) }
+        (string_bytes out.new ≡ string_bytes out.old ++ tokens_text Html (html_row line.now.columns)) }
 {
     let runs = line_runs(alloc, line)?;
     for run in &runs {
@@ -131,7 +131,7 @@ fn push_row(alloc: Global, out: &mut String, line: &Line) -> Result<(), AllocErr
 fn push_rows(alloc: Global, out: &mut String, lines: &[Line]) -> Result<(), AllocError>
     ensures { OnOk result
         (string_bytes out.new ≡ string_bytes out.old
-        ++ pieces_text Html (html_rows (map (λ line. line.columns) lines.now))) }
+        ++ tokens_text Html (html_rows (map (λ line. line.columns) lines.now))) }
 {
     for line in lines {
         push_row(alloc, out, line)?;

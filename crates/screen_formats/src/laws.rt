@@ -5,10 +5,10 @@ ghost use Rattle.cell_edits.specs.VisibleCells.{VisibleCell, texts_joined};
 ghost use Rattle.cell_views.specs.Groups.{AreGroupsOf, groups_by};
 ghost use Rattle.screen_formats.specs.Runs.{RendersAs, begins_run, run_of, runs_of};
 ghost use Rattle.cell_base.specs.Screen.{Screen};
-ghost use Rattle.screen_formats.specs.Content.{AreTagged, content, html_content, pieces_content, svg_content};
+ghost use Rattle.screen_formats.specs.Content.{AreTagged, content, html_content, tokens_content, svg_content};
 ghost use Rattle.screen_formats.specs.Escape.{escaped, held_text, unescaped};
 ghost use Rattle.screen_formats.specs.Html.{html_text};
-ghost use Rattle.screen_formats.specs.Pieces.{Piece, pieces_text};
+ghost use Rattle.screen_formats.specs.Tokens.{Token, tokens_text};
 ghost use Rattle.screen_formats.specs.Svg.{svg_text};
 
 use crate::escape::Markup;
@@ -22,12 +22,12 @@ pub fn escaped_texts_read_back(markup: Markup, text: &str)
     let _text = text;
 }
 
-/// What a reader who passes over the tags sees of pieces are their texts, one after the other, whatever the texts and
+/// What a reader who passes over the tags sees of tokens are their texts, one after the other, whatever the texts and
 /// the values of attributes hold.
 #[tactic(auto, using(crate::proofs::ContentLemmas::content_back))]
-pub fn pieces_hold_their_texts(markup: Markup)
-    ensures { (pieces : List Piece) → AreTagged pieces
-        → content (pieces_text markup pieces) ≡ Some (pieces_content markup pieces) }
+pub fn tokens_hold_their_texts(markup: Markup)
+    ensures { (tokens : List Token) → AreTagged tokens
+        → content (tokens_text markup tokens) ≡ Some (tokens_content markup tokens) }
 {
     let _markup = markup;
 }

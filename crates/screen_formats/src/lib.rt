@@ -1,4 +1,18 @@
-//! A screen as others look at it: as plain rows, with the sequences of a terminal, as HTML, SVG and JSON.
+//! A screen in the formats of files: as plain rows, with the sequences of a terminal, as HTML, SVG and JSON.
+//!
+//! - `ansi`: a screen as rows for a terminal.
+//! - `colors`: the colours of cells: those of xterm's palette of 256, direct ones, and those shown for the
+//!   default ones.
+//! - `escape`: texts escaped for HTML and for XML.
+//! - `html`: a screen as HTML.
+//! - `json`: a screen as JSON.
+//! - `laws`: laws of the formats: each is the contract of a function that does nothing.
+//! - `links`: the links that are written.
+//! - `renditions`: how a cell looks, as words and as declarations of CSS.
+//! - `runs`: a line as runs: neighbouring cells that look alike.
+//! - `svg`: a screen as SVG.
+//! - `text`: a screen as plain rows.
+//! - `tokens`: tags and texts of HTML and XML.
 #![tactic(auto)]
 
 mod ansi;
@@ -8,11 +22,11 @@ mod html;
 mod json;
 pub mod laws;
 pub mod links;
-pub mod pieces;
 mod renditions;
 mod runs;
 mod svg;
 mod text;
+pub mod tokens;
 
 pub use ansi::write_ansi;
 pub use html::write_html;

@@ -18,7 +18,7 @@ pub(crate) fn text_if(holds: bool, text: &str) -> &str
     if holds { text } else { "" }
 }
 
-/// A look: its word, with a space after it; its parameter of SGR, after a `;`; and its declaration of CSS. Each is
+/// A style: its word, with a space after it; its parameter of SGR, after a `;`; and its declaration of CSS. Each is
 /// empty where there is none.
 #[derive(Clone, Copy)]
 pub(crate) struct Rendition {

@@ -3,7 +3,7 @@ ghost use Rattle.std.specs.Prelude.{◌≡◌, ◌++◌, ◌*◌, ◌+◌, ◌-�
 ghost use Rattle.std.specs.String.{string_bytes};
 ghost use Rattle.std.specs.List.{flat_map};
 ghost use Rattle.cell_surface.specs.Surface.{shown_by};
-ghost use Rattle.screen_formats.specs.Pieces.{Closing, Words, pieces_text};
+ghost use Rattle.screen_formats.specs.Tokens.{Closing, Words, tokens_text};
 ghost use Rattle.screen_formats.specs.Svg.{base_line, column_units, placed_text, rectangle, row_units, sized_opening};
 ghost use Rattle.screen_formats.specs.Svg.{svg_cursor, svg_head, svg_letters, svg_opening, svg_paper, svg_part};
 ghost use Rattle.screen_formats.specs.Svg.{svg_row, svg_rows, svg_runs, svg_style, svg_text, svg_text_of};
@@ -14,9 +14,9 @@ use crate::colors::{
 };
 use crate::escape::Markup;
 use crate::links::link_uri;
-use crate::pieces::{push_closing, push_element, push_opening, push_words};
 use crate::renditions::{color_style, rendition_style, rendition_words};
 use crate::runs::{Run, line_runs};
+use crate::tokens::{push_closing, push_element, push_opening, push_words};
 use cell_base::{CellAttributes, CursorVisibility, Widths};
 use cell_line::Line;
 use cell_surface::Surface;
@@ -72,7 +72,7 @@ fn push_rectangle<'a>(
 ) -> Result<(), AllocError>
     ensures { OnOk result
         (string_bytes out.new ≡ string_bytes out.old
-        ++ pieces_text Xml (rectangle x.now y.now width.now height.now fill.now opacity.now)) }
+        ++ tokens_text Xml (rectangle x.now y.now width.now height.now fill.now opacity.now)) }
 {
     push_element(
         out,
@@ -104,7 +104,7 @@ fn push_placed_text<'a>(
 ) -> Result<(), AllocError>
     ensures { OnOk result
         (string_bytes out.new ≡ string_bytes out.old
-        ++ pieces_text Xml (placed_text x.now y.now len.now words.now style.now text.now)) }
+        ++ tokens_text Xml (placed_text x.now y.now len.now words.now style.now text.now)) }
 {
     push_element(
         out,
@@ -126,7 +126,7 @@ fn push_placed_text<'a>(
 // Writes what follows a run, if a colour is seen there.
 #[tactic(auto, unfolding(crate::specs::Svg::svg_paper))]
 fn push_paper(alloc: Global, out: &mut String, row: usize, run: &Run<'_>) -> Result<(), AllocError>
-    ensures { OnOk result (string_bytes out.new ≡ string_bytes out.old ++ pieces_text Xml (svg_paper row run.now)) }
+    ensures { OnOk result (string_bytes out.new ≡ string_bytes out.old ++ tokens_text Xml (svg_paper row run.now)) }
 {
     if !has_background(run.attrs) {
         return Ok(());
@@ -146,7 +146,7 @@ fn push_letters(
     row: usize,
     run: &Run<'_>,
 ) -> Result<(), AllocError>
-    ensures { OnOk result (string_bytes out.new ≡ string_bytes out.old ++ pieces_text Xml (svg_letters row run.now)) }
+    ensures { OnOk result (string_bytes out.new ≡ string_bytes out.old ++ tokens_text Xml (svg_letters row run.now)) }
 {
     let x = column_units(alloc, run.column)?;
     let y = base_line(alloc, row)?;
@@ -160,7 +160,7 @@ fn push_letters(
 // Writes the text of a run, in a link where there is one.
 #[tactic(auto, unfolding(crate::specs::Svg::svg_text_of))]
 fn push_text(alloc: Global, out: &mut String, row: usize, run: &Run<'_>) -> Result<(), AllocError>
-    ensures { OnOk result (string_bytes out.new ≡ string_bytes out.old ++ pieces_text Xml (svg_text_of row run.now)) }
+    ensures { OnOk result (string_bytes out.new ≡ string_bytes out.old ++ tokens_text Xml (svg_text_of row run.now)) }
 {
     let uri = link_uri(run.attrs);
     if uri.is_empty() {
@@ -182,7 +182,7 @@ fn push_part(
     is_text: bool,
 ) -> Result<(), AllocError>
     ensures { OnOk result
-        (string_bytes out.new ≡ string_bytes out.old ++ pieces_text Xml (svg_part is_text row run.now)) }
+        (string_bytes out.new ≡ string_bytes out.old ++ tokens_text Xml (svg_part is_text row run.now)) }
 {
     if is_text {
         push_text(alloc, out, row, run)?;
@@ -201,7 +201,7 @@ fn push_parts(
     is_text: bool,
 ) -> Result<(), AllocError>
     ensures { OnOk result
-        (string_bytes out.new ≡ string_bytes out.old ++ pieces_text Xml (flat_map (svg_part is_text row) runs.now)) }
+        (string_bytes out.new ≡ string_bytes out.old ++ tokens_text Xml (flat_map (svg_part is_text row) runs.now)) }
 {
     for run in runs {
         push_part(alloc, out, row, run, is_text)?;
@@ -213,7 +213,7 @@ fn push_parts(
 #[tactic(auto, unfolding(crate::specs::Svg::svg_row))]
 fn push_row(alloc: Global, out: &mut String, row: usize, line: &Line) -> Result<(), AllocError>
     ensures { OnOk result
-        (string_bytes out.new ≡ string_bytes out.old ++ pieces_text Xml (svg_row row line.now.columns)) }
+        (string_bytes out.new ≡ string_bytes out.old ++ tokens_text Xml (svg_row row line.now.columns)) }
 {
     let runs = line_runs(alloc, line)?;
     push_parts(alloc, out, row, &runs, false)?;
@@ -225,7 +225,7 @@ fn push_row(alloc: Global, out: &mut String, row: usize, line: &Line) -> Result<
 fn push_rows(alloc: Global, out: &mut String, lines: &[Line]) -> Result<(), AllocError>
     ensures { OnOk result
         (string_bytes out.new ≡ string_bytes out.old
-        ++ pieces_text Xml (svg_rows 0 (map (λ line. line.columns) lines.now))) }
+        ++ tokens_text Xml (svg_rows 0 (map (λ line. line.columns) lines.now))) }
 {
     for row in 0..lines.len() {
         push_row(alloc, out, row, &lines[row])?;
@@ -241,7 +241,7 @@ fn push_cursor<W: Widths + Drop>(
     surface: &Surface<W>,
 ) -> Result<(), AllocError>
     ensures { OnOk result
-        (string_bytes out.new ≡ string_bytes out.old ++ pieces_text Xml (svg_cursor (shown_by surface.now).screen)) }
+        (string_bytes out.new ≡ string_bytes out.old ++ tokens_text Xml (svg_cursor (shown_by surface.now).screen)) }
 {
     if surface.cursor_visibility() == CursorVisibility::Hidden {
         return Ok(());
@@ -265,7 +265,7 @@ fn push_sized_opening<'a>(
 ) -> Result<(), AllocError>
     ensures { OnOk result
         (string_bytes out.new ≡ string_bytes out.old
-        ++ pieces_text Xml (sized_opening width.now height.now view_box.now)) }
+        ++ tokens_text Xml (sized_opening width.now height.now view_box.now)) }
 {
     push_opening(
         out,
@@ -292,7 +292,7 @@ fn push_svg_opening<'a>(
     height: &'a str,
 ) -> Result<(), AllocError>
     ensures { OnOk result
-        (string_bytes out.new ≡ string_bytes out.old ++ pieces_text Xml (svg_opening width.now height.now)) }
+        (string_bytes out.new ≡ string_bytes out.old ++ tokens_text Xml (svg_opening width.now height.now)) }
 {
     let view_box = format!(in alloc; "0 0 {width} {height}")?;
     push_sized_opening(out, width, height, &view_box)?;
@@ -308,7 +308,7 @@ fn push_head<'a>(
     title: &str,
 ) -> Result<(), AllocError>
     ensures { OnOk result
-        (string_bytes out.new ≡ string_bytes out.old ++ pieces_text Xml (svg_head width.now height.now title.now)) }
+        (string_bytes out.new ≡ string_bytes out.old ++ tokens_text Xml (svg_head width.now height.now title.now)) }
 {
     let fill = hex_color(alloc, DEFAULT_BACKGROUND)?;
     push_svg_opening(alloc, out, width, height)?;
@@ -321,7 +321,7 @@ fn push_head<'a>(
 fn push_end(out: &mut String) -> Result<(), AllocError>
     ensures { OnOk result
         (string_bytes out.new ≡ string_bytes out.old
-        ++ pieces_text Xml (Closing (codes "svg") ∷ Words (10 ∷ []) ∷ [])) }
+        ++ tokens_text Xml (Closing (codes "svg") ∷ Words (10 ∷ []) ∷ [])) }
 {
     push_closing(out, Markup::Xml, "svg")?;
     push_words(out, Markup::Xml, "\n")?;

@@ -1,4 +1,4 @@
-//! The grid.
+//! `Grid`: a display kept as lines, and what each change does to it.
 ghost use Rattle.std.specs.Prelude.{◌≡◌, ℕ, true, false, nat_le, ◌+◌, ◌-◌, ◌<◌, ◌≤◌, ◌++◌, ◌∷◌, [], length, map};
 ghost use Rattle.std.specs.Prelude.{replicate, IfOk, OnOk};
 ghost use Rattle.cell_base.specs.Cluster.{clusters};

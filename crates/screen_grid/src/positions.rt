@@ -1,4 +1,4 @@
-//! The positions that positions name.
+//! The column or row that a `Position` names, going from the current one.
 ghost use Rattle.std.specs.Prelude.{◌≡◌, ◌<◌, ◌≤◌};
 ghost use Rattle.screen_effects.specs.Positions.{resolved_column, resolved};
 

@@ -50,7 +50,7 @@ fn store<T: Drop>(items: &mut Vec<T>, at: usize, item: T) -> Result<(), AllocErr
 // Brings the `len` items from `start` on to the start: swaps one after another with the item there.
 #[cold]
 #[inline(never)]
-fn bring_to_front<T>(items: &mut [T], start: usize, len: usize)
+fn move_to_start<T>(items: &mut [T], start: usize, len: usize)
     requires some { 0 < start }
     requires within { start + len ≤ length items.old }
     ensures len { length items.new ≡ length items.old }
@@ -142,7 +142,7 @@ impl<T> Ring<T> {
             rotate(&mut self.items, self.start, self.len);
             return;
         }
-        bring_to_front(&mut self.items, self.start, self.len);
+        move_to_start(&mut self.items, self.start, self.len);
         self.start = 1;
     }
 }

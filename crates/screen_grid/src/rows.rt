@@ -1,11 +1,9 @@
 //! Rows of lines that are cleared, written and moved.
-ghost use Rattle.std.specs.Prelude.{◌≡◌, true, ◌+◌, ◌-◌, ◌^◌, ◌<◌, ◌≤◌, ◌++◌, ◌∷◌, [], length, drop, take, map};
+ghost use Rattle.std.specs.Prelude.{◌≡◌, ◌+◌, ◌-◌, ◌^◌, ◌<◌, ◌≤◌, ◌++◌, ◌∷◌, [], length, drop, take, map};
 ghost use Rattle.std.specs.Prelude.{slice_set, replicate, IfOk, OnOk};
-ghost use Rattle.std.specs.List.{list_all};
-ghost use Rattle.text_clusters.specs.Plain.{is_printable};
 ghost use Rattle.cell_base.specs.Cluster.{clusters};
 ghost use Rattle.cell_base.specs.Row.{plain_row};
-ghost use Rattle.cell_line.specs.LineCalls.{set_blanks as blanks_set, set_plain as plain_set, set_text as text_set};
+ghost use Rattle.cell_line.specs.LineCalls.{set_blanks as blanks_set, set_text as text_set};
 ghost use Rattle.cell_line.specs.LineCalls.{set_cell_grapheme as grapheme_set, set_text_end, set_clusters};
 ghost use Rattle.cell_line.specs.LineContent.{clustered_line_of, with_bits};
 ghost use Rattle.screen_grid.specs.Grid.{line_at};
@@ -125,27 +123,6 @@ pub(crate) fn set_text<'a, W: Widths>(
     let width = line.len();
     let (column, left) = row_writing::set_text(line, at..width, text, attrs, w)?;
     Ok((column, left))
-}
-
-// Sets printable ASCII characters from a column of a row on, each as a cell of one column.
-#[inline(always)]
-pub(crate) fn set_plain(
-    rows: &mut Ring<Line>,
-    row: usize,
-    at: usize,
-    text: &str,
-    attrs: &CellAttributes,
-) -> Result<(), AllocError>
-    requires row_in { row < length rows.old }
-    requires printable { list_all is_printable text.now ≡ true }
-    requires within { at + length text.now ≤ length (line_at rows.old row).columns }
-    requires small { at + length text.now < 2 ^ 64 }
-    ensures len { length rows.new ≡ length rows.old }
-    ensures lines { OnOk result
-        (rows.new ≡ slice_set rows.old row (plain_set (line_at rows.old row) at text.now attrs.now)) }
-{
-    row_writing::set_plain(&mut rows[row], at, text, attrs)?;
-    Ok(())
 }
 
 // Sets a cell at a column of a row.

@@ -1,4 +1,4 @@
-//! Texts cut at their controls.
+//! One control of a text, and the next cluster of one.
 ghost use Rattle.std.specs.Prelude.{◌≡◌, ◌↔◌, ◌∷◌, ◌++◌, [], true, IsNone, IfSome};
 ghost use Rattle.screen_effects.specs.Strokes.{Control, text_parts};
 ghost use Rattle.unicode_segmentation.specs.Grapheme.{graphemes};

@@ -23,22 +23,22 @@ pub swapped_block : (n at : ℕ) (prefix after done left : List Change) → at +
     → left ≡ take n (mid_of at (length prefix - at) prefix) ++ drop n (mid_of at (length after - at) after)
     → take (at + n) (put_mid at (length prefix - at) prefix done) ++ drop (at + n) (put_mid at (length after - at) after left) ≡ take at prefix ++ drop at after
 swapped_block n at prefix after done left h e d l =
-    let fronts = mid_of at (length prefix - at) prefix in
+    let prefix_end = mid_of at (length prefix - at) prefix in
     let remaining = mid_of at (length after - at) after in
-    let all_fronts : fronts ≡ drop at prefix = between_to_end prefix at (length prefix) (omega arith) in
+    let whole_end : prefix_end ≡ drop at prefix = between_to_end prefix at (length prefix) (omega arith) in
     let all_rest : remaining ≡ drop at after = between_to_end after at (length after) (omega arith) in
     let first = length-take-le at prefix (omega arith) in
     let second = length-take-le at after (omega arith) in
-    let fronts_len = ap length all_fronts ∙ length-drop at prefix in
+    let end_len = ap length whole_end ∙ length-drop at prefix in
     let rest_len = ap length all_rest ∙ length-drop at after in
     let block = length-take-le n remaining (omega arith) in
-    let other_block = length-take-le n fronts (omega arith) in
+    let other_block = length-take-le n prefix_end (omega arith) in
     let joined = length-append (take at prefix) (take n remaining) in
-    let other_joined = length-append (take at after) (take n fronts) in
+    let other_joined = length-append (take at after) (take n prefix_end) in
     let none : post_of at (length after - at) after ≡ [] = drop_all (length after - at) (drop at after) (let k = length-drop at after in omega arith) in
     (λ i. take (at + n) (put_mid at (length prefix - at) prefix (d i)) ++ drop (at + n) (put_mid at (length after - at) after (l i)))
-    ∙ (λ i. take_prefix (take at prefix) (take n remaining) (drop n fronts) (post_of at (length prefix - at) prefix) (at + n) (omega arith) i
-    ++ drop_prefix (take at after) (take n fronts) (drop n remaining) (post_of at (length after - at) after) (at + n) (omega arith) i)
+    ∙ (λ i. take_prefix (take at prefix) (take n remaining) (drop n prefix_end) (post_of at (length prefix - at) prefix) (at + n) (omega arith) i
+    ++ drop_prefix (take at after) (take n prefix_end) (drop n remaining) (post_of at (length after - at) after) (at + n) (omega arith) i)
     ∙ ap (λ (rest : List Change). (take at prefix ++ take n remaining) ++ (drop n remaining ++ rest)) none
     ∙ ap (λ (rest : List Change). (take at prefix ++ take n remaining) ++ rest) (append-nil (drop n remaining))
     ∙ append_assoc (take at prefix) (take n remaining) (drop n remaining)

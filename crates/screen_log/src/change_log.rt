@@ -1,4 +1,4 @@
-//! The log.
+//! `ChangeLog`: numbered changes, of which those are kept that may be due.
 ghost use Rattle.std.specs.Prelude.{IfOk, ◌≡◌, ◌⊎◌, ◌+◌, ◌-◌, ◌<◌, ◌≤◌, ◌^◌, ◌↔◌, ◌++◌, ◌∷◌, IsTrue, [], drop, length};
 ghost use Rattle.std.specs.Prelude.{map, replicate, take, vec_len, OnOk, OnErr};
 ghost use Rattle.std.specs.Option.{option_map};
@@ -75,9 +75,9 @@ fn swap_changes(prefix: &mut [Change], after: &mut [Change])
 // Swaps the changes from `start` on with the first ones.
 #[cold]
 #[inline(never)]
-fn bring_to_front(changes: &mut [Change], start: usize)
+fn move_to_start(changes: &mut [Change], start: usize)
     requires within { start ≤ length changes.old }
-    requires few { length changes.old ≤ start + start }
+    requires short { length changes.old ≤ start + start }
     ensures len { length changes.new ≡ length changes.old }
     ensures prefix { take (length changes.old - start) changes.new ≡ drop start changes.old }
 {
@@ -144,7 +144,7 @@ fn drop_before(changes: &mut Vec<Change>, start: &mut usize, position: usize, po
     requires pool { pool.old ≤ MOST_POOLED }
     ensures left { drop start.new changes.new.items ≡ drop position changes.old.items }
     ensures len { vec_len changes.new + position ≡ start.new + vec_len changes.old }
-    ensures few { start.new + start.new ≤ vec_len changes.new }
+    ensures short { start.new + start.new ≤ vec_len changes.new }
     ensures dropped { take start.new changes.new.items ≡ replicate start.new nothing }
     ensures pool { pool.new ≤ MOST_POOLED }
 {
@@ -154,7 +154,7 @@ fn drop_before(changes: &mut Vec<Change>, start: &mut usize, position: usize, po
         *start = position;
         return;
     }
-    bring_to_front(changes, position);
+    move_to_start(changes, position);
     changes.truncate(left);
     *start = 0;
 }

@@ -1,4 +1,5 @@
-//! Laws of logs: each is the contract of a function that does nothing.
+//! Laws of logs: nothing that is due is lost, and what is kept is counted. Each is the contract of a function that
+//! does nothing.
 ghost use Rattle.std.specs.Prelude.{◌≡◌, ◌≢◌, ℕ, ◌+◌, ◌<◌, ◌≤◌, List, [], ◌∷◌, codes, length, replicate};
 ghost use Rattle.screen_change.specs.ChangeValue.{ChangeValue, Text};
 ghost use Rattle.screen_log.specs.Log.{due, due_after, most_due};
@@ -29,7 +30,7 @@ pub fn kept_changes_are_counted(log: &ChangeLog)
 /// or a repaint is due instead, where it was before, or where more changes would be due than may be. To
 /// a viewer who has seen the change none is due. Each change that the log keeps is taken to have a
 /// number, as in all logs.
-pub fn another_change_is_due_after_the_others()
+pub fn another_change_is_due_last()
     ensures due { (log : Sized) (change : ChangeValue) (number : ℕ) → length log.log.entries ≤ log.log.number
         → number ≤ log.log.number
         → due log.most (step_of_kept log (Logged change)).log number ≡ due_after log.most log.log change number }

@@ -70,7 +70,7 @@ impl TextPool {
     #[inline(always)]
     pub(crate) fn take(&mut self, alloc: Global) -> String
         ensures empty { string_bytes result ≡ [] }
-        ensures few { self.new ≤ MOST_POOLED }
+        ensures bounded { self.new ≤ MOST_POOLED }
     {
         let Some(mut text) = self.texts.pop() else {
             return String::new(alloc);

@@ -92,7 +92,7 @@ module _ (width_of : List ℕ → ℕ) (narrow : width_of space ≡ 1) where
       λ i. one_blank color cell p.0 parts.0 i ++ all_blanks color cells p.1 parts.1 i
 
   -- as many blanks of a colour follow these cells, which are sound
-  pub record Fronts (color : ColorAttribute) (cells kept : List CellContent) : Type 0 where
+  pub record EndsInBlanks (color : ColorAttribute) (cells kept : List CellContent) : Type 0 where
     pub blanks : ℕ
     pub same : joined_columns cells ≡ joined_columns kept ++ replicate blanks (blank (blank_of color))
     pub sound : AreSound width_of kept
@@ -107,17 +107,17 @@ module _ (width_of : List ℕ → ℕ) (narrow : width_of space ≡ 1) where
       not_not true e = refl
       not_not false e = absurd (false≢true (sym e))
 
-  pub prefix_kept : (color : ColorAttribute) (cells : List CellContent) → AreSound width_of cells → Fronts color cells (up_to_last (λ cell. not (is_blank_of color cell)) cells)
+  pub prefix_kept : (color : ColorAttribute) (cells : List CellContent) → AreSound width_of cells → EndsInBlanks color cells (up_to_last (λ cell. not (is_blank_of color cell)) cells)
   prefix_kept color [] p = record { blanks = 0; same = refl; sound = tt }
   prefix_kept color (cell ∷ cells) p =
       let passes : CellContent → Bool = λ c. not (is_blank_of color c) in
       by_test (passes cell || list_any passes cells)
-      (λ e. subst (λ b. Fronts color (cell ∷ cells) (if b then cell ∷ up_to_last passes cells else [])) (sym e)
+      (λ e. subst (λ b. EndsInBlanks color (cell ∷ cells) (if b then cell ∷ up_to_last passes cells else [])) (sym e)
       (longer cell cells (up_to_last passes cells) p.0 (prefix_kept color cells p.1)))
-      (λ e. subst (λ b. Fronts color (cell ∷ cells) (if b then cell ∷ up_to_last passes cells else [])) (sym e)
+      (λ e. subst (λ b. EndsInBlanks color (cell ∷ cells) (if b then cell ∷ up_to_last passes cells else [])) (sym e)
       (record { blanks = length (cell ∷ cells); same = all_blanks color (cell ∷ cells) p (not_any color (cell ∷ cells) e); sound = tt }))
     where
-      longer : (cell : CellContent) (cells kept : List CellContent) → IsSoundText width_of cell.text (nat_le 2 cell.width) → Fronts color cells kept → Fronts color (cell ∷ cells) (cell ∷ kept)
+      longer : (cell : CellContent) (cells kept : List CellContent) → IsSoundText width_of cell.text (nat_le 2 cell.width) → EndsInBlanks color cells kept → EndsInBlanks color (cell ∷ cells) (cell ∷ kept)
       longer c cs kept q f =
           let own : Row = columns_of c.text (nat_le 2 c.width) c.attributes in record {
             blanks = f.blanks;

@@ -22,7 +22,7 @@ use Rattle.screen_effects.proofs.EffectLaws.{effect_is, replay_is}
 use Rattle.screen_effects.specs.WrittenCells.{AreSound, joined_columns}
 use Rattle.screen_effects.proofs.WrittenLemmas.{written_are_shown}
 use Rattle.screen_repaint.specs.Repaint.{are_some, pen_after, pen_left, row_cells, go_with_blanks, end_cleared, row_painted, in_next_row, rows_painted}
-use Rattle.screen_repaint.proofs.CellLemmas.{AreGood, Fronts, element_at, element_set, prefix_of, length-of, row_again, whole_cells, sound_cells, prefix_kept, blank_rows_are, set_at_start, cleared_is}
+use Rattle.screen_repaint.proofs.CellLemmas.{AreGood, EndsInBlanks, element_at, element_set, prefix_of, length-of, row_again, whole_cells, sound_cells, prefix_kept, blank_rows_are, set_at_start, cleared_is}
 use Rattle.screen_repaint.proofs.PaintLemmas.{cells_leave}
 
 module _ (width_of : List ℕ → ℕ) (narrow : width_of space ≡ 1) (d : Display) where
@@ -138,7 +138,7 @@ module _ (width_of : List ℕ → ℕ) (narrow : width_of space ≡ 1) (d : Disp
       let cells : List CellContent = row_cells row in
       let kept : List CellContent = less_blanks (Some color) cells in
       let too : Bool = go_with_blanks (Some color) below in
-      let prefix : Fronts width_of narrow color cells kept = prefix_kept width_of narrow color cells (sound_cells width_of narrow 0 row g.2) in
+      let prefix : EndsInBlanks width_of narrow color cells kept = prefix_kept width_of narrow color cells (sound_cells width_of narrow 0 row g.2) in
       let columns : Row = joined_columns kept in
       let m : ℕ = prefix.blanks in
       let is : columns ++ blank_row m color ≡ row = sym prefix.same ∙ row_again 0 row g.1 in

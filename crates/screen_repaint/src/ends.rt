@@ -1,7 +1,6 @@
-//! How rows end.
-ghost use Rattle.std.specs.Prelude.{◌≡◌, ◌+◌, ◌<◌, ◌^◌, ◌&&◌, ◌==◌, [], length, MatchOption};
+//! Ends of rows: the blanks of one background there, and how many cells come before them.
+ghost use Rattle.std.specs.Prelude.{◌≡◌, ◌+◌, ◌<◌, ◌^◌, ◌&&◌, [], length, MatchOption};
 ghost use Rattle.std.specs.Option.{option_map};
-ghost use Rattle.std.specs.List.{list_all, suffix_len};
 ghost use Rattle.std.specs.Str.{bytes_eq};
 ghost use Rattle.cell_base.specs.Attributes.{blank_of as attributes_of};
 ghost use Rattle.cell_base.specs.Row.{space};
@@ -10,9 +9,10 @@ ghost use Rattle.screen_change.specs.CellRuns.{is_blank_of};
 ghost use Rattle.cell_views.specs.CellRefView.{cells_left, shown_by};
 ghost use Rattle.screen_repaint.specs.PaintedRows.{AreFilled, IsTail, rows_of};
 ghost use Rattle.screen_repaint.specs.Repaint.{row_cells};
-ghost use Rattle.screen_repaint.specs.Ends.{PassesOn, PassesSpaces, are_blanks_with, blanks_at_end, end_of};
-ghost use Rattle.screen_repaint.specs.Ends.{passing_at_end, with_blanks, with_rest, ends_in};
+ghost use Rattle.screen_repaint.specs.Ends.{PassesOn, PassesSpaces, are_blanks_with, end_of, ends_in};
+ghost use Rattle.screen_repaint.specs.Ends.{passing_at_end, with_blanks, with_rest};
 
+use crate::fast::pass_plain_spaces;
 use cell_base::CellAttributes;
 use cell_line::{CellRef, Line, VisibleCellIter};
 use screen_grid::blank_of;
@@ -38,7 +38,7 @@ impl<'a> Model for RowEnd<'a> {
 }
 
 // Whether the attributes are plain except for the background.
-fn is_plain(attrs: &CellAttributes) -> bool
+pub(crate) fn is_plain(attrs: &CellAttributes) -> bool
     ensures { result ≡ same_attributes attrs.now (attributes_of attrs.now.background) }
 {
     *attrs == blank_of(attrs.background())
@@ -50,25 +50,6 @@ fn is_blank(cell: &CellRef<'_>) -> bool
     ensures { result ≡ is_blank_of (shown_by cell.now).cell.attributes.background (shown_by cell.now).cell }
 {
     cell.str() == " " && is_plain(cell.attrs())
-}
-
-// How many spaces there are at the end of a text.
-fn spaces_at_end(text: &str) -> usize
-    ensures { result ≡ suffix_len (λ byte. byte == 32) text.now }
-{
-    let from_end = text.as_bytes().iter().rev();
-    from_end.take_while(|byte| **byte == b' ').count()
-}
-
-// How many cells of a text, one for each of its bytes, are blanks at the end.
-fn blanks_at_end(text: &str, attrs: &CellAttributes) -> usize
-    ensures { result ≡ blanks_at_end text.now attrs.now }
-{
-    let spaces = spaces_at_end(text);
-    if spaces == 0 || !is_plain(attrs) {
-        return 0;
-    }
-    spaces
 }
 
 // Whether there are blanks, and they have these attributes.
@@ -97,7 +78,7 @@ impl<'a> RowEnd<'a> {
     }
 
     // Adds `remaining` other cells, and then `blanks` blanks with these attributes.
-    fn push(&mut self, remaining: usize, blanks: usize, attrs: &'a CellAttributes)
+    pub(crate) fn push(&mut self, remaining: usize, blanks: usize, attrs: &'a CellAttributes)
         requires { self.old.cells + (remaining + blanks) < 2 ^ 64 }
         ensures { self.new ≡ with_blanks blanks attrs.now (with_rest remaining self.old) }
     {
@@ -121,9 +102,7 @@ impl<'a> RowEnd<'a> {
         requires { self.old.cells + length (cells_left cells.old) < 2 ^ 64 }
         ensures { PassesOn self.old (cells_left cells.old) self.new (cells_left cells.new) result }
     {
-        if let Some((text, attrs)) = cells.pass_plain(usize::MAX) {
-            let blanks = blanks_at_end(text, attrs);
-            self.push(text.len() - blanks, blanks, attrs);
+        if self.push_plain(cells).is_some() {
             return true;
         }
         let Some(cell) = cells.next() else {
@@ -159,21 +138,14 @@ fn is_space_with(cell: &CellRef<'_>, attrs: &CellAttributes) -> bool
     cell.str() == " " && *cell.attrs() == *attrs
 }
 
-// Whether a text is spaces alone.
-fn is_spaces(text: &str) -> bool
-    ensures { result ≡ list_all (λ byte. byte == 32) text.now }
-{
-    text.as_bytes().iter().all(|byte| *byte == b' ')
-}
-
 // Passes the next of the remaining cells, as many as are one text, or else one. Returns whether they are spaces with
 // these attributes. `None`: none is left.
 fn pass_spaces(cells: &mut VisibleCellIter<'_>, attrs: &CellAttributes) -> Option<bool>
     ensures { MatchOption result (cells_left cells.old ≡ [])
         (λ are. PassesSpaces attrs.now (cells_left cells.old) (cells_left cells.new) are) }
 {
-    if let Some((text, own)) = cells.pass_plain(usize::MAX) {
-        return Some(is_spaces(text) && *own == *attrs);
+    if let Some(are_spaces) = pass_plain_spaces(cells, attrs) {
+        return Some(are_spaces);
     }
     let cell = cells.next()?;
     Some(is_space_with(&cell, attrs))

@@ -16,6 +16,7 @@ ghost use Rattle.screen_repaint.specs.Repaint.{are_some, end_cleared, go_with_bl
 ghost use Rattle.screen_repaint.specs.Repaint.{rows_painted};
 
 use crate::ends::{RowEnd, blank_tail, ends_in, row_end};
+use crate::fast::write_plain;
 use cell_base::{CellAttributes, ColorAttribute, Position};
 use cell_line::{Line, VisibleCellIter};
 use screen_change::{CellWriter, Change};
@@ -45,9 +46,8 @@ fn write_next<'a>(
     ensures { IfOk result
         (λ count. WritesOn most writer.old (cells_left cells.old) count writer.new (cells_left cells.new)) }
 {
-    if let Some((text, attrs)) = cells.pass_plain(most) {
-        writer.push_plain(text, attrs)?;
-        return Ok(text.len());
+    if let Some(count) = write_plain(writer, cells, most)? {
+        return Ok(count);
     }
     if most == 0 {
         return Ok(0);

@@ -1,4 +1,4 @@
-//! The repaint.
+//! `repaint`: the changes that paint a screen anew.
 ghost use Rattle.std.specs.Prelude.{◌≡◌, ◌&&◌, ◌==◌, [], ◌∷◌, IfOk, OnOk, map};
 ghost use Rattle.cell_base.specs.declared.attributes.CursorVisibility.TheVariants.{Hidden};
 ghost use Rattle.cell_base.specs.declared.color.ColorAttribute.TheVariants.{Default};

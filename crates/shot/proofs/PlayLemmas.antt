@@ -59,8 +59,8 @@ pub played_until : {W : Type 0} (before then now : Terminal W) (events prefix : 
     → (view : View) → StandsAt before view → StandsAt now (view_at view (map event_of events) time)
 unfolding view_at
 played_until before then now events prefix time count prefix_is count_is acted looked view st =
-    let fronts : map event_of prefix ≡ until time (map event_of events) =
+    let prefixes : map event_of prefix ≡ until time (map event_of events) =
     ap (map event_of) prefix_is ∙ sym (take-map event_of count events) ∙ ap (λ n. take n (map event_of events)) count_is in
     subst (StandsAt now)
-    (sym (after_joins program_width view (steps_of (map event_of prefix)) (Look ∷ [])) ∙ ap (λ es. after program_width view (steps_of es ++ Look ∷ [])) fronts)
+    (sym (after_joins program_width view (steps_of (map event_of prefix)) (Look ∷ [])) ∙ ap (λ es. after program_width view (steps_of es ++ Look ∷ [])) prefixes)
     (looked.stands (after program_width view (steps_of (map event_of prefix))) (acted view st))

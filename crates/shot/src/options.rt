@@ -57,7 +57,7 @@ fn format_option<'a>(alloc: Global) -> Arg<'a> {
 // What is read and written.
 const MORE: &str = "\
 Input: the bytes that an application writes to its terminal; or a recording in
-asciicast version 2 or 3, which has its size, and is told by its first line.
+asciicast version 2 or 3, which has its size; its first line tells it apart.
 
 Examples:
   shot < output

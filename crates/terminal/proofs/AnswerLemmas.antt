@@ -5,7 +5,7 @@ use Rattle.cell_base.specs.Screen.{Screen, height}
 use Rattle.cell_surface.specs.Surface.{number_of}
 use Rattle.screen_log.specs.LogSteps.{Sized}
 use Rattle.terminal.specs.Fed.{AnswersAt}
-use Rattle.terminal.specs.Sent.{IsAt, IsCounted, Lightens, Sent, looked, lightened, update_at}
+use Rattle.terminal.specs.Written.{IsAt, IsCounted, Lightens, UpdateWritten, looked, lightened, update_at}
 use Rattle.terminal.specs.Shown.{AppendsPrefix}
 use Rattle.terminal.specs.Headline.{StandsAt, GoesBy}
 use Rattle.terminal.specs.Refusals.{NeedsNumber}
@@ -20,18 +20,18 @@ use Rattle.terminal_viewers.specs.Update.{bytes_of, painted_anew, update_of}
 use Rattle.terminal_viewers.specs.Updates.{Standing, standing_after}
 use Rattle.terminal_viewers.specs.Viewers.{AnswersAs, AreFed}
 use Rattle.terminal_viewers.proofs.KeptLemmas.{answers_itself, answers_after, answers_with_replies, answers_after_forget, answers_alike}
-use Rattle.terminal_viewers.proofs.PieceLemmas.{standings_join, standings_cut}
+use Rattle.terminal_viewers.proofs.ChunkLemmas.{standings_join, standings_cut}
 
 -- ---- standings
 
--- one piece after another is both
-pub pieces_join : (f : List ℕ → ℕ) (s : Standing) (x y : List ℕ) → standing_after f (standing_after f s (Piece x ∷ [])) (Piece y ∷ []) ≡ standing_after f s (Piece (x ++ y) ∷ [])
-pieces_join f s x y = sym (standings_join f s (Piece x ∷ []) (Piece y ∷ [])) ∙ standings_cut actions_join f s x y []
+-- one chunk after another is both
+pub chunks_join : (f : List ℕ → ℕ) (s : Standing) (x y : List ℕ) → standing_after f (standing_after f s (Piece x ∷ [])) (Piece y ∷ []) ≡ standing_after f s (Piece (x ++ y) ∷ [])
+chunks_join f s x y = sym (standings_join f s (Piece x ∷ []) (Piece y ∷ [])) ∙ standings_cut actions_join f s x y []
 
 pub number_rises : (f : List ℕ → ℕ) (s : Standing) (h : History) → s.log.log.number ≤ (standing_after f s h).log.log.number
 number_rises f s h = fold_number (logged f s.view h) s.log
 
--- The same is sent to a viewer at number 0, to which nothing is due, and at the number from which one answers as the other.
+-- A viewer at number 0, to which nothing is due, gets the update of one at the number from which one answers as the other.
 pub update_alike : (from number : ℕ) (kept whole : Standing) → (number ≡ 0) ⊎ (from ≡ number) → AnswersAs from kept whole → update_at kept number ≡ update_at whole number
 update_alike from number kept whole (inl e) h =
     subst (λ n. update_at kept n ≡ update_at whole n) (sym e)
@@ -67,9 +67,9 @@ module _ {W : Type 0} (width_of : W → List ℕ → ℕ) (w : W) where
   update_there : (t u : Terminal W) (s : Standing) (number : ℕ) → t.surface.grid.widths ≡ w → IsAt t s → GoesBy width_of t u (Look ∷ []) → update_of (state_in u).screen u.surface.log number ≡ update_at (looked f s) number
   update_there t u s number e at g = let there = goes_at t u s (Look ∷ []) e at g in λ i. update_of (there.stands.state i).screen (there.log i) number
 
-  pub sent_is : (t u v : Terminal W) (s : Standing) (number next : ℕ) (bytes : List ℕ) (old new : Option (List ℕ)) → t.surface.grid.widths ≡ w → IsAt t s → GoesBy width_of t u (Look ∷ [])
-      → bytes ≡ update_of (state_in u).screen u.surface.log number → next ≡ number_of u.surface → Appends old new bytes → Lightens width_of u v next → Sent f s number next v old new
-  sent_is t u v s number next bytes old new e at g b n a l =
+  pub written_is : (t u v : Terminal W) (s : Standing) (number next : ℕ) (bytes : List ℕ) (old new : Option (List ℕ)) → t.surface.grid.widths ≡ w → IsAt t s → GoesBy width_of t u (Look ∷ [])
+      → bytes ≡ update_of (state_in u).screen u.surface.log number → next ≡ number_of u.surface → Appends old new bytes → Lightens width_of u v next → UpdateWritten f s number next v old new
+  written_is t u v s number next bytes old new e at g b n a l =
       let there = goes_at t u s (Look ∷ []) e at g in
       record {
         appends = subst (Appends old new) (b ∙ update_there t u s number e at g) a;

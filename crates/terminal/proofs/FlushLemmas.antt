@@ -2,17 +2,17 @@
 use Rattle.std.proofs.Common.{◌≡◌, ℕ, ◌+◌, ◌<◌, List, [], ◌∷◌, ◌++◌, length, refl, ap, ◌∙◌, arith, Option, Some, None, length-append}
 use Rattle.std.specs.Prelude.{IfSome}
 use Rattle.std.specs.Io.KnownBytes.{Consumes, IsAtEnd}
-use Rattle.terminal.specs.Sent.{update_count}
+use Rattle.terminal.specs.Written.{update_count}
 use Rattle.terminal.specs.Watched.{counted, counted_by}
-use Rattle.terminal_viewers.specs.Updates.{in_pieces}
-use Rattle.terminal_viewers.proofs.PieceLemmas.{grows, fills}
+use Rattle.terminal_viewers.specs.Updates.{in_chunks}
+use Rattle.terminal_viewers.proofs.ChunkLemmas.{grows, fills}
 
--- Of an input some pieces are done, with a flush after each, and one has begun.
+-- Of an input some chunks are done, with a flush after each, and one has begun.
 pub record IsFlushing (every : ℕ) (input rest : List ℕ) (old now left : ℕ) : Type 0 where
   pub done : ℕ
   pub begun : List ℕ
   pub room : length begun + left ≡ every
-  pub count : update_count every input ≡ done + length (in_pieces every begun rest)
+  pub count : update_count every input ≡ done + length (in_chunks every begun rest)
   pub flushed : counted now ≡ counted_by (done + 1) old
 
 abbrev pub FlushesOn : ℕ → Option (List ℕ) → Option (List ℕ) → ℕ → ℕ → ℕ → Type 0
@@ -25,7 +25,7 @@ none_flushed every None old = tt
 none_flushed every (Some input) old = record { done = 0; begun = []; room = omega arith; count = omega arith; flushed = refl }
 
 module _ (every : ℕ) (old now left : ℕ) where
-  -- some bytes more, which don't fill the piece
+  -- some bytes more, which don't fill the chunk
   pub flushes_more : (input rest next : Option (List ℕ)) (bytes : List ℕ) (less new to : ℕ) → FlushesOn every input rest old now left → Consumes rest next bytes → less + length bytes ≡ left → 0 < less → new ≡ now → to ≡ less
       → FlushesOn every input next old new to
   flushes_more None rest next bytes less new to s c count some e f = tt
@@ -38,7 +38,7 @@ module _ (every : ℕ) (old now left : ℕ) where
         done = s.done;
         begun = s.begun ++ bytes;
         room = omega arith;
-        count = s.count ∙ ap (λ l. s.done + length (in_pieces every s.begun l)) c ∙ ap (λ ps. s.done + length ps) (grows every s.begun bytes next (omega arith));
+        count = s.count ∙ ap (λ l. s.done + length (in_chunks every s.begun l)) c ∙ ap (λ ps. s.done + length ps) (grows every s.begun bytes next (omega arith));
         flushed = ap counted e ∙ s.flushed;
       }
 
@@ -51,8 +51,8 @@ module _ (every : ℕ) (old now left : ℕ) where
   flushes_next (Some input) (Some rest) (Some next) bytes new to s c full some e f =
       let room = s.room in
       let flushed = s.flushed in
-      let count : update_count every input ≡ s.done + length ((s.begun ++ bytes) ∷ in_pieces every [] next)
-      = s.count ∙ ap (λ l. s.done + length (in_pieces every s.begun l)) c ∙ ap (λ ps. s.done + length ps) (fills every s.begun bytes next (omega arith) (omega arith)) in
+      let count : update_count every input ≡ s.done + length ((s.begun ++ bytes) ∷ in_chunks every [] next)
+      = s.count ∙ ap (λ l. s.done + length (in_chunks every s.begun l)) c ∙ ap (λ ps. s.done + length ps) (fills every s.begun bytes next (omega arith) (omega arith)) in
       record {
         done = s.done + 1;
         begun = [];
@@ -69,5 +69,5 @@ module _ (every : ℕ) (old now left : ℕ) where
   flushes_all (Some input) (Some rest) None new s c n e = absurd c
   flushes_all (Some input) (Some rest) (Some next) new s c n e =
       let flushed = s.flushed in
-      let count : update_count every input ≡ s.done + 1 = s.count ∙ ap (λ l. s.done + length (in_pieces every s.begun l)) (c ∙ n) in
+      let count : update_count every input ≡ s.done + 1 = s.count ∙ ap (λ l. s.done + length (in_chunks every s.begun l)) (c ∙ n) in
       omega (arith, e, flushed, count)

@@ -1,5 +1,5 @@
 -- Terminals that go on by histories.
-use Rattle.std.proofs.Common.{◌≡◌, ℕ, ◌≤◌, ◌^◌, Bool, false, List, [], ◌∷◌, ◌++◌, map, fold, inl, inr, refl, sym, ap, subst, ◌∙◌}
+use Rattle.std.proofs.Common.{◌≡◌, ℕ, ◌<◌, ◌≤◌, ◌^◌, Bool, false, List, [], ◌∷◌, ◌++◌, map, fold, inl, inr, refl, sym, ap, subst, ◌∙◌}
 use Rattle.std.specs.Prelude.{◌⊎◌}
 use Rattle.std.specs.String.{string_bytes}
 use Rattle.std.proofs.lemmas.Grind.{flat_map-append}
@@ -10,8 +10,7 @@ use Rattle.escape_framing.specs.Cut.{newly_decided}
 use Rattle.escape_framing.specs.Held.{Held, held_of}
 use Rattle.escape_framing.proofs.Existence.CutLemmas.{is_the_cut}
 use Rattle.escape_framing.proofs.PlacedLemmas.{newly_join}
-use Rattle.escape_stream.specs.Items.{Item, items}
-use Rattle.escape_stream.specs.PiecesView.{BytesTakeMemory}
+use Rattle.escape_stream.specs.Items.{Item, items, items_of}
 use Rattle.escape_stream.specs.StreamActions.{actions_of_dispatch, actions_of}
 use Rattle.escape_stream.proofs.SpellLemmas.{pieces_spell}
 use Rattle.terminal.specs.Headline.{StandsAt, GoesBy}
@@ -20,7 +19,7 @@ use Rattle.terminal.specs.Terminal.{Terminal}
 use Rattle.terminal_steps.specs.Events as steps
 use Rattle.terminal_steps.specs.Events.{IsReady, Had, view_of}
 use Rattle.terminal_steps.specs.Memory.{TakesMemory}
-use Rattle.terminal_steps.specs.Items.{item_event, item_events, Leads, SomeNeedsMemory}
+use Rattle.terminal_steps.specs.Items.{item_event, item_events, log_after_items, Leads, ParserNeedsMemory, SomeNeedsMemory}
 use Rattle.terminal_steps.specs.declared.state.TerminalState.{TerminalState}
 use Rattle.terminal_steps.proofs.SpellLemmas.{call_state, call_held, call_logged, call_events, none_newly}
 use Rattle.terminal_table.specs.History.{History, Piece, Look, Resize, Forget, Event, Act, Looked, Resized, Forgot}
@@ -157,6 +156,20 @@ module _ {W : Type 0} (width_of : W → List ℕ → ℕ) where
   taken_with f stream view log (Resized width height) failed h = h
   taken_with f stream view log (Forgot number) failed h = h
 
+  fits_at : (f : List ℕ → ℕ) (s view : View) (log : Sized) (items : List Item) → s ≡ with_stream [] view → (log_after_items f s log items).log.number < 2 ^ 64 → (log_after_items f view log items).log.number < 2 ^ 64
+  fits_at f s view log items same fits =
+      let es = item_events items in
+      subst (λ (l : Sized). l.log.number < 2 ^ 64) (ap (λ (v : View). fold step_of_kept log (events_logged f v es)) same ∙ ap (fold step_of_kept log) (logged_with f view [] es)) fits
+
+  early_at : (f : List ℕ → ℕ) (s view : View) (log : Sized) (stream bytes : List ℕ) → s ≡ with_stream [] view → ParserNeedsMemory f s log stream bytes → ParserNeedsMemory f view log stream bytes
+  early_at f s view log stream bytes same early = record {
+    done = early.done;
+    left = early.left;
+    whole = early.whole;
+    fits = fits_at f s view log (items_of early.done) same early.fits;
+    takes = early.takes;
+  }
+
   some_at : (f : List ℕ → ℕ) (s view : View) (log : Sized) (items : List Item) (failed : Bool) → s ≡ with_stream [] view → SomeNeedsMemory f s log items failed → SomeNeedsMemory f view log items failed
   some_at f s view log items failed same some =
       let es = item_events some.done in
@@ -166,6 +179,7 @@ module _ {W : Type 0} (width_of : W → List ℕ → ℕ) where
         item = some.item;
         left = some.left;
         whole = some.whole;
+        fits = fits_at f s view log some.done same some.fits;
         takes = taken_with f [] (fold (event_done f) view es) (log_of (events_logged f view es)) (item_event some.item) failed
             (subst (λ (steps : List LogStep). TakesMemory f (with_stream [] (fold (event_done f) view es)) (log_of steps) (item_event some.item) failed) (logged_with f view [] es)
             (subst (λ (v : View). TakesMemory f v (log_of (events_logged f (with_stream [] view) es)) (item_event some.item) failed) (all_done_with f view [] es)
@@ -174,18 +188,18 @@ module _ {W : Type 0} (width_of : W → List ℕ → ℕ) where
 
   pub fed_memory : (s : TerminalState W) (u : Held) (now : Terminal W) (bytes : List ℕ) (failed : Bool) → IsReady s → with_parts s u ≡ now
       → ((stream : List ℕ) → u ≡ held_of stream → IsReady s → AreEvents (item_events (items stream bytes))
-      → BytesTakeMemory stream bytes ⊎ SomeNeedsMemory (width_of s.surface.grid.widths) (view_of s) s.surface.log (items stream bytes) failed)
-      → (view : View) → StandsAt now view → BytesTakeMemory view.stream bytes ⊎ SomeNeedsMemory (of now) view now.surface.log (items view.stream bytes) failed
+      → ParserNeedsMemory (width_of s.surface.grid.widths) (view_of s) s.surface.log stream bytes ⊎ SomeNeedsMemory (width_of s.surface.grid.widths) (view_of s) s.surface.log (items stream bytes) failed)
+      → (view : View) → StandsAt now view → ParserNeedsMemory (of now) view now.surface.log view.stream bytes ⊎ SomeNeedsMemory (of now) view now.surface.log (items view.stream bytes) failed
   fed_memory s u now bytes failed ready same takes =
-      subst (λ (t : Terminal W). (view : View) → StandsAt t view → BytesTakeMemory view.stream bytes ⊎ SomeNeedsMemory (of t) view t.surface.log (items view.stream bytes) failed) same
+      subst (λ (t : Terminal W). (view : View) → StandsAt t view → ParserNeedsMemory (of t) view t.surface.log view.stream bytes ⊎ SomeNeedsMemory (of t) view t.surface.log (items view.stream bytes) failed) same
       (λ view st. in_view view st (takes view.stream st.unfinished ready (events_are view.stream bytes)))
     where
       f : List ℕ → ℕ
       f = width_of s.surface.grid.widths
 
-      in_view : (view : View) → StandsAt (with_parts s u) view → BytesTakeMemory view.stream bytes ⊎ SomeNeedsMemory f (view_of s) s.surface.log (items view.stream bytes) failed
-          → BytesTakeMemory view.stream bytes ⊎ SomeNeedsMemory f view s.surface.log (items view.stream bytes) failed
-      in_view view st (inl taken) = inl taken
+      in_view : (view : View) → StandsAt (with_parts s u) view → ParserNeedsMemory f (view_of s) s.surface.log view.stream bytes ⊎ SomeNeedsMemory f (view_of s) s.surface.log (items view.stream bytes) failed
+          → ParserNeedsMemory f view s.surface.log view.stream bytes ⊎ SomeNeedsMemory f view s.surface.log (items view.stream bytes) failed
+      in_view view st (inl early) = inl (early_at f (view_of s) view s.surface.log view.stream bytes (same_view s u view st) early)
       in_view view st (inr some) = inr (some_at f (view_of s) view s.surface.log (items view.stream bytes) failed (same_view s u view st) some)
 
   pub fed_sound : (s : TerminalState W) (u : Held) (bytes : List ℕ) → IsReached u → IsReady s

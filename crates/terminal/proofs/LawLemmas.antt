@@ -12,8 +12,8 @@ use Rattle.terminal.specs.Headline.{StandsAt, GoesBy}
 use Rattle.terminal.specs.Refusals.{NeedsMemory}
 use Rattle.terminal.specs.Terminal.{Terminal, IsIdle, IsAlike, state_in}
 use Rattle.terminal.proofs.GoLemmas.{in_turn, joined}
-use Rattle.terminal_steps.specs.Items.{AsksNothing, SomeNeedsMemory}
-use Rattle.terminal_steps.proofs.MemoryLemmas.{quiet_items}
+use Rattle.terminal_steps.specs.Items.{AsksNothing, ParserNeedsMemory, SomeNeedsMemory}
+use Rattle.terminal_steps.proofs.MemoryLemmas.{bytes_take, quiet_items}
 use Rattle.terminal_table.specs.Alone as alone
 use Rattle.terminal_table.specs.Alone.{row_done, row_logged}
 use Rattle.terminal_table.specs.Changes.{run_change}
@@ -75,7 +75,7 @@ module _ {W : Type 0} (width_of : W → List ℕ → ℕ) where
       → AllByRecursion AsksNothing (items view.stream bytes) → NeedsMemory width_of before bytes now → BytesTakeMemory view.stream bytes
   asks_nothing before now view bytes st none all needs = taken (needs view st)
     where
-      taken : BytesTakeMemory view.stream bytes ⊎ SomeNeedsMemory (width_of before.surface.grid.widths) view before.surface.log (items view.stream bytes) now.surface.is_failed
+      taken : ParserNeedsMemory (width_of before.surface.grid.widths) view before.surface.log view.stream bytes ⊎ SomeNeedsMemory (width_of before.surface.grid.widths) view before.surface.log (items view.stream bytes) now.surface.is_failed
           → BytesTakeMemory view.stream bytes
-      taken (inl taking) = taking
+      taken (inl taking) = bytes_take (width_of before.surface.grid.widths) view before.surface.log view.stream bytes taking
       taken (inr some) = absurd (quiet_items (width_of before.surface.grid.widths) view before.surface.log (items view.stream bytes) now.surface.is_failed (sym st.run ∙ none) all some)

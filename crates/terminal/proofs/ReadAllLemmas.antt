@@ -1,22 +1,22 @@
--- An input that is read and fed in pieces, to a terminal that forgets what nobody reads.
+-- An input that is read and fed in chunks, to a terminal that forgets what nobody reads.
 use Rattle.std.proofs.Common.{◌≡◌, ℕ, ◌^◌, ◌≤◌, false, List, [], ◌∷◌, ◌++◌, refl, sym, ap, subst, ◌∙◌, arith, Option, Some, None, append_assoc, append-nil}
 use Rattle.std.specs.Prelude.{IfSome}
 use Rattle.std.specs.Io.KnownBytes.{Consumes, IsAtEnd}
 use Rattle.cell_base.specs.Screen.{Screen, screen_text}
 use Rattle.cell_surface.specs.Surface.{number_of}
 use Rattle.terminal.specs.Fed.{AnswersAt, AnswersNow, IsFed, FeedsOn, Feeds, FeedingNeedsNumber}
-use Rattle.terminal.specs.Sent.{IsAt, Lightens}
+use Rattle.terminal.specs.Written.{IsAt, Lightens}
 use Rattle.terminal.specs.Shown.{rows_shown}
 use Rattle.terminal.specs.Headline.{GoesBy}
 use Rattle.terminal.specs.Refusals.{NeedsNumber}
 use Rattle.terminal.specs.Terminal.{Terminal, state_in}
-use Rattle.terminal.proofs.AnswerLemmas.{pieces_join, number_rises, answers_first, answers_on, answers_at_rest, answers_later, answers_lighter, number_there, needs_there}
+use Rattle.terminal.proofs.AnswerLemmas.{chunks_join, number_rises, answers_first, answers_on, answers_at_rest, answers_later, answers_lighter, number_there, needs_there}
 use Rattle.terminal_table.specs.History.{History, Piece, Look, Forget}
 use Rattle.terminal_table.specs.Logged.{log_of}
 use Rattle.terminal_table.specs.Meaning.{meaning}
 use Rattle.terminal_viewers.specs.Updates.{Standing, new_standing, standing_after}
 use Rattle.terminal_viewers.specs.Viewers.{AreFed}
-use Rattle.terminal_viewers.proofs.PieceLemmas.{standings_join}
+use Rattle.terminal_viewers.proofs.ChunkLemmas.{standings_join}
 
 -- ---- an input that is being read
 
@@ -45,7 +45,7 @@ module _ {W : Type 0} (width_of : W → List ℕ → ℕ) where
     answers = λ start at counted.
         let w = t.surface.grid.widths in
         let whole = standing_after (of t) start (Piece (fed ++ bytes) ∷ []) in
-        let a = subst (AnswersNow u) (pieces_join (of t) start fed bytes) (goes_on w now u (standing_after (of t) start (Piece fed ∷ [])) (Piece bytes ∷ []) tt h.widths (h.answers start at counted) g) in
+        let a = subst (AnswersNow u) (chunks_join (of t) start fed bytes) (goes_on w now u (standing_after (of t) start (Piece fed ∷ [])) (Piece bytes ∷ []) tt h.widths (h.answers start at counted) g) in
         let there = n ∙ number_there width_of w whole.log.log.number u whole a in
         subst (λ m. AnswersAt m then whole) there (answers_lighter width_of w whole.log.log.number number u then whole (omega (arith, there)) (g.widths ∙ h.widths) a l);
     widths = ap (λ (x : Terminal W). x.surface.grid.widths) l.dropped ∙ l.goes.widths ∙ g.widths ∙ h.widths;
@@ -84,7 +84,7 @@ module _ {W : Type 0} (width_of : W → List ℕ → ℕ) where
       let past = needs_there width_of t.surface.grid.widths fed.log.log.number now fed (Piece bytes ∷ []) tt h.is.widths (h.is.answers start at counted) n in
       let rises = number_rises (of t) there (Piece next ∷ []) in
       let whole : standing_after (of t) there (Piece next ∷ []) ≡ standing_after (of t) start (Piece input ∷ [])
-      = ap (λ x. standing_after (of t) x (Piece next ∷ [])) (pieces_join (of t) start h.fed bytes) ∙ pieces_join (of t) start (h.fed ++ bytes) next
+      = ap (λ x. standing_after (of t) x (Piece next ∷ [])) (chunks_join (of t) start h.fed bytes) ∙ chunks_join (of t) start (h.fed ++ bytes) next
       ∙ ap (λ l. standing_after (of t) start (Piece l ∷ [])) (append_assoc h.fed bytes next ∙ ap (λ l. h.fed ++ l) (sym c) ∙ sym h.whole) in
       subst (λ (x : Standing). 2 ^ 64 ≤ x.log.log.number) whole (omega arith)
 

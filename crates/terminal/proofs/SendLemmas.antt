@@ -2,7 +2,7 @@
 use Rattle.std.proofs.Common.{◌≡◌, ℕ, ◌+◌, ◌<◌, ◌≤◌, ◌^◌, false, List, [], ◌∷◌, length, refl, sym, ap, subst, ◌∙◌, arith, Option, Some, None}
 use Rattle.std.specs.Prelude.{IfSome}
 use Rattle.std.specs.Io.KnownBytes.{Appends, Consumes, IsAtEnd, Keeps}
-use Rattle.terminal.specs.Sent.{IsAt, IsCounted, Lightens, Sent, Sends, SendsSome, SendsAll, SendsChunks, SendsChunksOf, SendsFirst, SendsPart, LooksNeedNumber, due_from, looked, number_after, update_at, updates_from}
+use Rattle.terminal.specs.Written.{IsAt, IsCounted, Lightens, UpdateWritten, Sends, SendsSome, SendsAll, SendsChunks, SendsChunksOf, SendsFirst, SendsPart, LooksNeedNumber, due_from, looked, number_after, update_at, updates_from}
 use Rattle.terminal.specs.Shown.{AppendsPrefix}
 use Rattle.terminal.specs.Headline.{GoesBy}
 use Rattle.terminal.specs.Refusals.{NeedsNumber}
@@ -33,7 +33,7 @@ module _ {W : Type 0} (width_of : W → List ℕ → ℕ) where
     on_more (Some input) (Some rest) (Some next) bytes u less s c g count some = λ start at counted.
         sending_more width_of before.surface.grid.widths every start input rest old now t number left (s start at counted) next bytes u less c same g count some
 
-    -- what no viewer is sent is forgotten within a piece
+    -- what no viewer is sent is forgotten within a chunk
     pub on_lighter : (input rest : Option (List ℕ)) (v : Terminal W) (later : ℕ) → SendsOn width_of every before input rest old now t number left → later ≡ due_from t number → Lightens width_of t v later
         → SendsOn width_of every before input rest old now v number left
     on_lighter None rest v later s e l = tt
@@ -48,7 +48,7 @@ module _ {W : Type 0} (width_of : W → List ℕ → ℕ) where
     on_next (Some input) (Some rest) None bytes u v later new s c g full some sends widths sound = absurd c
     on_next (Some input) (Some rest) (Some next) bytes u v later new s c g full some sends widths sound = λ start at counted.
         sending_next width_of before.surface.grid.widths every start input rest old now t number left (s start at counted) next bytes u v later new c same g full some
-        (λ x there. subst (λ (y : W). Sent (width_of y) x number later v now new) (g.widths ∙ same) (sends x there)) (widths ∙ g.widths ∙ same) sound
+        (λ x there. subst (λ (y : W). UpdateWritten (width_of y) x number later v now new) (g.widths ∙ same) (sends x there)) (widths ∙ g.widths ∙ same) sound
 
     pub on_all : (input rest next : Option (List ℕ)) (u : Terminal W) (later : ℕ) (new : Option (List ℕ)) → SendsOn width_of every before input rest old now t number left → Consumes rest next [] → IsAtEnd next → Sends width_of t u number later now new → SendsAll width_of every before input old new
     on_all None rest next u later new s c e sends = tt
@@ -56,7 +56,7 @@ module _ {W : Type 0} (width_of : W → List ℕ → ℕ) where
     on_all (Some input) (Some rest) None u later new s c e sends = absurd c
     on_all (Some input) (Some rest) (Some next) u later new s c e sends = λ start at counted.
         sending_all width_of before.surface.grid.widths every start input rest old now t number left (s start at counted) u later new (c ∙ e)
-        (λ x there. subst (λ (y : W). Sent (width_of y) x number later u now new) same (sends x there))
+        (λ x there. subst (λ (y : W). UpdateWritten (width_of y) x number later u now new) same (sends x there))
 
     -- ---- where it ends early
 
@@ -116,13 +116,10 @@ module _ {W : Type 0} (width_of : W → List ℕ → ℕ) where
 
   -- ---- a new terminal
 
-  pub nothing_sent : (f : List ℕ → ℕ) (every : ℕ) (start : Standing) (input old : Option (List ℕ)) → IfSome input (λ x. SendsPart f every start x input old old)
-  nothing_sent f every start None old = tt
-  nothing_sent f every start (Some x) old = record {
-    read = [];
-    rest = x;
-    whole = refl;
-    remaining = refl;
+  pub nothing_written : (f : List ℕ → ℕ) (every : ℕ) (start : Standing) (input old : Option (List ℕ)) → IfSome input (λ x. SendsPart f every start x input old old)
+  nothing_written f every start None old = tt
+  nothing_written f every start (Some x) old = record {
+    part = record { read = []; rest = x; whole = refl; remaining = refl };
     of_read = record { written = []; remaining = updates_from f every start []; whole = refl; appends = nothing_appended old old (keeps_same old) };
     of_input = record { written = []; remaining = updates_from f every start x; whole = refl; appends = nothing_appended old old (keeps_same old) };
   }

@@ -16,7 +16,7 @@ use Rattle.screen_effects.specs.Resize.{resized_row, resized_screen}
 use Rattle.terminal.specs.Headline.{StandsAt, GoesBy}
 use Rattle.terminal.specs.Terminal.{Terminal, IsSpelled}
 use Rattle.terminal.proofs.GoLemmas.{with_parts, stands_somewhere, looked, resized, forgot, went, fed, events_are as events_are_lawful}
-use Rattle.terminal_render.specs.Spelling.{HaveSpellings, IsSpelledSaved, IsSpelledScreen, IsSpelledText, IsSpelledView}
+use Rattle.terminal_render.specs.Spelling.{HaveEncodings, IsSpelledSaved, IsSpelledScreen, IsSpelledText, IsSpelledView}
 use Rattle.terminal_render.proofs.LogLemmas.{history_keeps}
 use Rattle.terminal_render.proofs.StreamLemmas.{history_spelled}
 use Rattle.terminal_render.proofs.ViewLemmas.{HasSize, new_spelled, settled_is, settled_size, step_size}
@@ -129,8 +129,8 @@ module _ {W : Type 0} (width_of : W → List ℕ → ℕ) where
       let next = after (of x) view history in
       let there = g.stands view st in
       let spelled : IsSpelledView next = history_spelled cut (of x) view history lawful sizes (view_spelled x view st p) in
-      let first : HaveSpellings view.state.screen.width (height view.state.screen) x.surface.log.log.entries
-      = subst (λ (s : Screen). HaveSpellings s.width (height s) x.surface.log.log.entries) (at_view x view st) p.surface.kept in
+      let first : HaveEncodings view.state.screen.width (height view.state.screen) x.surface.log.log.entries
+      = subst (λ (s : Screen). HaveEncodings s.width (height s) x.surface.log.log.entries) (at_view x view st) p.surface.kept in
       let kept = history_keeps cut (of x) view history x.surface.log lawful sizes (view_spelled x view st p) first in
       let little = history_small (of x) view history lawful sizes small (subst IsSmall (at_view x view st) (record { wide = p.surface.wide; tall = p.surface.tall })) in
       let here = at_view y next there in
@@ -142,8 +142,8 @@ module _ {W : Type 0} (width_of : W → List ℕ → ℕ) where
           tall = size.tall;
           shapeless = shape ∙ p.surface.shapeless;
           spelled = subst IsSpelledScreen (sym here) spelled.state.screen;
-          kept = subst (λ (s : Screen). HaveSpellings s.width (height s) y.surface.log.log.entries) (sym here)
-              (subst (λ (l : Sized). HaveSpellings next.state.screen.width (height next.state.screen) l.log.entries) (sym (g.log view st)) kept);
+          kept = subst (λ (s : Screen). HaveEncodings s.width (height s) y.surface.log.log.entries) (sym here)
+              (subst (λ (l : Sized). HaveEncodings next.state.screen.width (height next.state.screen) l.log.entries) (sym (g.log view st)) kept);
         };
         saved = subst (λ s. IsSpelledSaved s) (ap (λ s. s.saved) (sym there.state)) spelled.state.saved;
         run = subst IsSpelledText (sym there.run) spelled.held;
@@ -163,7 +163,7 @@ module _ {W : Type 0} (width_of : W → List ℕ → ℕ) where
           tall = subst (λ n. n < 2 ^ 32) (sym (ap (λ (s : Screen). length s.rows) here ∙ length-replicate rows (plain_row width))) tall;
           shapeless = shape;
           spelled = subst IsSpelledScreen (sym here) first.state.screen;
-          kept = subst (HaveSpellings (shown_by t.surface).screen.width (height (shown_by t.surface).screen)) (sym none) tt;
+          kept = subst (HaveEncodings (shown_by t.surface).screen.width (height (shown_by t.surface).screen)) (sym none) tt;
         };
         saved = subst IsSpelledSaved (ap (λ s. s.saved) (sym st.state)) tt;
         run = subst IsSpelledText (sym st.run) first.held;

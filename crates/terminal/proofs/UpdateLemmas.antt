@@ -1,4 +1,4 @@
--- The updates of an input that is read in pieces.
+-- The updates of an input that is read in chunks.
 use Rattle.std.proofs.Common.{◌≡◌, ◌≢◌, ℕ, ◌+◌, ◌<◌, ◌≤◌, ◌^◌, ◌⊎◌, inl, inr, Bool, true, false, List, [], ◌∷◌, ◌++◌, length, refl, sym, ap, subst, ◌∙◌, arith, Option, Some, None, append_assoc, append-nil, length-append}
 use Rattle.std.specs.Prelude.{◌==◌, if◌then◌else◌}
 use Rattle.std.proofs.lemmas.Grind.{flat_map-append}
@@ -7,18 +7,18 @@ use Rattle.std.specs.Io.KnownBytes.{Appends}
 use Rattle.cell_surface.specs.Surface.{number_of}
 use Rattle.escape_framing.proofs.Existence.Utf8Lemmas.{order}
 use Rattle.terminal.specs.Fed.{AnswersAt}
-use Rattle.terminal.specs.Sent.{IsAt, IsCounted, Lightens, Sent, SendsChunks, SendsPart, due_from, looked, lightened, update_at, updates_from, number_after}
+use Rattle.terminal.specs.Written.{IsAt, IsCounted, Lightens, UpdateWritten, SendsChunks, SendsPart, due_from, looked, lightened, update_at, updates_from, number_after}
 use Rattle.terminal.specs.Shown.{AppendsPrefix}
 use Rattle.terminal.specs.Headline.{GoesBy}
 use Rattle.terminal.specs.Refusals.{NeedsNumber}
 use Rattle.terminal.specs.Terminal.{Terminal}
-use Rattle.terminal.proofs.AnswerLemmas.{pieces_join, number_rises, update_alike, answers_first, answers_on, answers_at_rest, answers_lightened, answers_lighter, number_there, needs_there}
+use Rattle.terminal.proofs.AnswerLemmas.{chunks_join, number_rises, update_alike, answers_first, answers_on, answers_at_rest, answers_lightened, answers_lighter, number_there, needs_there}
 use Rattle.terminal.proofs.GoLemmas.{actions_join}
 use Rattle.terminal_table.specs.History.{History, Piece, Look}
-use Rattle.terminal_viewers.specs.Updates.{Standing, in_pieces, looks, standing_after, updates_after}
+use Rattle.terminal_viewers.specs.Updates.{Standing, in_chunks, looks, standing_after, updates_after}
 use Rattle.terminal_viewers.specs.Viewers.{AnswersAs}
 use Rattle.terminal_viewers.proofs.KeptLemmas.{answers_after}
-use Rattle.terminal_viewers.proofs.PieceLemmas.{grows, fills, standings_join, standings_cut}
+use Rattle.terminal_viewers.proofs.ChunkLemmas.{grows, fills, standings_join, standings_cut}
 
 -- ---- known bytes
 
@@ -40,40 +40,40 @@ prefix_after a b c x y z h k = record {
 pub prefix_so_far : (a b : Option (List ℕ)) (x z : List ℕ) → Appends a b x → AppendsPrefix a b (x ++ z)
 prefix_so_far a b x z h = record { written = x; remaining = z; whole = refl; appends = h }
 
--- ---- the first piece
+-- ---- the first chunk
 
--- the first piece of an input goes on from what has begun
+-- the first chunk of an input goes on from what has begun
 record First (every : ℕ) (begun input : List ℕ) : Type 0 where
   more : List ℕ
   remaining : List (List ℕ)
-  are : in_pieces every begun input ≡ (begun ++ more) ∷ remaining
+  are : in_chunks every begun input ≡ (begun ++ more) ∷ remaining
 
-first_piece : (every : ℕ) (begun input : List ℕ) → First every begun input
-first_piece every begun [] = record { more = []; remaining = []; are = ap (λ (l : List ℕ). l ∷ []) (sym (append-nil begun)) }
-first_piece every begun (byte ∷ input) = by_test (length begun + 1 == every) refl (first_piece every (begun ++ byte ∷ []) input)
+first_chunk : (every : ℕ) (begun input : List ℕ) → First every begun input
+first_chunk every begun [] = record { more = []; remaining = []; are = ap (λ (l : List ℕ). l ∷ []) (sym (append-nil begun)) }
+first_chunk every begun (byte ∷ input) = by_test (length begun + 1 == every) refl (first_chunk every (begun ++ byte ∷ []) input)
   where
     by_test : (b : Bool) → (length begun + 1 == every) ≡ b → First every (begun ++ byte ∷ []) input → First every begun (byte ∷ input)
     by_test true e later = record {
       more = byte ∷ [];
-      remaining = in_pieces every [] input;
-      are = ap (λ b. if b then (begun ++ byte ∷ []) ∷ in_pieces every [] input else in_pieces every (begun ++ byte ∷ []) input) e;
+      remaining = in_chunks every [] input;
+      are = ap (λ b. if b then (begun ++ byte ∷ []) ∷ in_chunks every [] input else in_chunks every (begun ++ byte ∷ []) input) e;
     }
     by_test false e later = record {
       more = byte ∷ later.more;
       remaining = later.remaining;
-      are = ap (λ b. if b then (begun ++ byte ∷ []) ∷ in_pieces every [] input else in_pieces every (begun ++ byte ∷ []) input) e
+      are = ap (λ b. if b then (begun ++ byte ∷ []) ∷ in_chunks every [] input else in_chunks every (begun ++ byte ∷ []) input) e
           ∙ later.are ∙ ap (λ (l : List ℕ). l ∷ later.remaining) (append_assoc begun (byte ∷ []) later.more);
     }
 
--- so it does from bytes after it that fit in the piece
+-- so it does from bytes after it that fit in the chunk
 record Holds (every : ℕ) (begun bytes next : List ℕ) : Type 0 where
   more : List ℕ
   remaining : List (List ℕ)
-  are : in_pieces every begun (bytes ++ next) ≡ ((begun ++ bytes) ++ more) ∷ remaining
+  are : in_chunks every begun (bytes ++ next) ≡ ((begun ++ bytes) ++ more) ∷ remaining
 
 holds : (every : ℕ) (begun bytes next : List ℕ) → length begun + length bytes ≤ every → Holds every begun bytes next
 holds every begun [] next h =
-    let first = first_piece every begun next in
+    let first = first_chunk every begun next in
     record { more = first.more; remaining = first.remaining; are = first.are ∙ ap (λ (l : List ℕ). (l ++ first.more) ∷ first.remaining) (sym (append-nil begun)) }
 holds every begun (byte ∷ bytes) next h = either (order (length begun + length (byte ∷ bytes)) every)
   where
@@ -82,18 +82,18 @@ holds every begun (byte ∷ bytes) next h = either (order (length begun + length
 
     either : (length begun + length all < every) ⊎ (every ≤ length begun + length all) → Holds every begun all next
     either (inl l) =
-        let first = first_piece every (begun ++ all) next in
+        let first = first_chunk every (begun ++ all) next in
         record { more = first.more; remaining = first.remaining; are = grows every begun all next l ∙ first.are }
     either (inr l) = record {
       more = [];
-      remaining = in_pieces every [] next;
-      are = fills every begun all next (omega arith) (omega arith) ∙ ap (λ (l : List ℕ). l ∷ in_pieces every [] next) (sym (append-nil (begun ++ all)));
+      remaining = in_chunks every [] next;
+      are = fills every begun all next (omega arith) (omega arith) ∙ ap (λ (l : List ℕ). l ∷ in_chunks every [] next) (sym (append-nil (begun ++ all)));
     }
 
 -- ---- standings
 
 looks-append : (ps qs : List (List ℕ)) → looks (ps ++ qs) ≡ looks ps ++ looks qs
-looks-append ps qs = flat_map-append (λ piece. Piece piece ∷ Look ∷ []) ps qs
+looks-append ps qs = flat_map-append (λ chunk. Piece chunk ∷ Look ∷ []) ps qs
 
 module _ {W : Type 0} (width_of : W → List ℕ → ℕ) (w : W) where
   abbrev f : List ℕ → ℕ
@@ -101,8 +101,8 @@ module _ {W : Type 0} (width_of : W → List ℕ → ℕ) (w : W) where
 
   -- ---- an input that is being read
 
-  -- Of an input some bytes were read, in pieces that are done and one that has begun; an update was written after each that is done. `last` is where a
-  -- terminal that keeps all stood at the last look. This one answers as that one does with the piece that has begun, from the viewer's number on; before
+  -- Of an input some bytes were read, in chunks that are done and one that has begun; an update was written after each that is done. `last` is where a
+  -- terminal that keeps all stood at the last look. This one answers as that one does with the chunk that has begun, from the viewer's number on; before
   -- the first update, for which nothing is due, from any number.
   pub record IsSending (every : ℕ) (start : Standing) (input rest : List ℕ) (old now : Option (List ℕ)) (t : Terminal W) (number left : ℕ) : Type 0 where
     pub read : List ℕ
@@ -113,7 +113,7 @@ module _ {W : Type 0} (width_of : W → List ℕ → ℕ) (w : W) where
     pub from : ℕ
     pub whole : input ≡ read ++ rest
     pub room : length begun + left ≡ every
-    pub pieces : (more : List ℕ) → in_pieces every [] (read ++ more) ≡ done ++ in_pieces every begun more
+    pub chunks : (more : List ℕ) → in_chunks every [] (read ++ more) ≡ done ++ in_chunks every begun more
     pub appends : Appends old now written
     pub leads : (ps : List (List ℕ)) → updates_after f start 0 (done ++ ps) ≡ written ++ updates_after f last number ps
     pub last_is : last ≡ standing_after f start (looks done)
@@ -121,19 +121,16 @@ module _ {W : Type 0} (width_of : W → List ℕ → ℕ) (w : W) where
     pub seen : from ≤ (standing_after f last (Piece begun ∷ [])).log.log.number
     pub answers : AnswersAt from t (standing_after f last (Piece begun ∷ []))
 
-  -- the updates of the pieces that are done are written, and no more
+  -- the updates of the chunks that are done are written, and no more
   pub sending_chunks : (every : ℕ) (start : Standing) (input rest : List ℕ) (old now : Option (List ℕ)) (t : Terminal W) (number left : ℕ) → IsSending every start input rest old now t number left
       → (remaining : Option (List ℕ)) → remaining ≡ Some rest → SendsChunks f every start input remaining old now
   sending_chunks every start input rest old now t number left s remaining e = record {
-    read = s.read;
-    rest = rest;
-    whole = s.whole;
-    remaining = e;
+    part = record { read = s.read; rest = rest; whole = s.whole; remaining = e };
     chunks = s.done;
     begun = s.begun;
-    cut = ap (λ bytes. in_pieces every [] bytes) (sym (append-nil s.read)) ∙ s.pieces [];
+    cut = ap (λ bytes. in_chunks every [] bytes) (sym (append-nil s.read)) ∙ s.chunks [];
     appends = subst (λ bytes. Appends old now bytes)
-        (sym (append-nil s.written) ∙ sym (s.leads []) ∙ ap (λ pieces. updates_after f start 0 pieces) (append-nil s.done)) s.appends;
+        (sym (append-nil s.written) ∙ sym (s.leads []) ∙ ap (λ chunks. updates_after f start 0 chunks) (append-nil s.done)) s.appends;
   }
 
   pub sending_first : (every : ℕ) (start : Standing) (input : List ℕ) (old : Option (List ℕ)) (t : Terminal W) → t.surface.grid.widths ≡ w → t.is_failed ≡ false → IsAt t start → IsCounted start → Appends old old []
@@ -147,7 +144,7 @@ module _ {W : Type 0} (width_of : W → List ℕ → ℕ) (w : W) where
     from = 0;
     whole = refl;
     room = omega arith;
-    pieces = λ more. refl;
+    chunks = λ more. refl;
     appends = none;
     leads = λ ps. refl;
     last_is = λ i. record { view = record start.view { stream = sym (append-nil start.view.stream) i }; log = start.log };
@@ -158,32 +155,32 @@ module _ {W : Type 0} (width_of : W → List ℕ → ℕ) (w : W) where
 
   module _ (every : ℕ) (start : Standing) (input rest : List ℕ) (old now : Option (List ℕ)) (t : Terminal W) (number left : ℕ) (s : IsSending every start input rest old now t number left) where
     -- the updates, where more follows what was read
-    all_is : (more : List ℕ) → updates_from f every start (s.read ++ more) ≡ s.written ++ updates_after f s.last number (in_pieces every s.begun more)
-    all_is more = ap (updates_after f start 0) (s.pieces more) ∙ s.leads (in_pieces every s.begun more)
+    all_is : (more : List ℕ) → updates_from f every start (s.read ++ more) ≡ s.written ++ updates_after f s.last number (in_chunks every s.begun more)
+    all_is more = ap (updates_after f start 0) (s.chunks more) ∙ s.leads (in_chunks every s.begun more)
 
-    -- with the piece that has begun, and with others bytes in its place
+    -- with the chunk that has begun, and with others bytes in its place
     here : Standing
     here = standing_after f s.last (Piece s.begun ∷ [])
 
-    with_piece : List ℕ → Standing
-    with_piece piece = standing_after f s.last (Piece piece ∷ [])
+    with_chunk : List ℕ → Standing
+    with_chunk chunk = standing_after f s.last (Piece chunk ∷ [])
 
     -- some bytes more are fed
-    fed_on : (bytes : List ℕ) (u : Terminal W) → t.surface.grid.widths ≡ w → GoesBy width_of t u (Piece bytes ∷ []) → AnswersAt s.from u (with_piece (s.begun ++ bytes))
-    unfolding here with_piece
+    fed_on : (bytes : List ℕ) (u : Terminal W) → t.surface.grid.widths ≡ w → GoesBy width_of t u (Piece bytes ∷ []) → AnswersAt s.from u (with_chunk (s.begun ++ bytes))
+    unfolding here with_chunk
     fed_on bytes u same g =
-        subst (AnswersAt s.from u) (pieces_join f s.last s.begun bytes)
+        subst (AnswersAt s.from u) (chunks_join f s.last s.begun bytes)
         (answers_on width_of w s.from t u here (Piece bytes ∷ []) tt same s.answers g)
 
-    seen_after : (bytes : List ℕ) → here.log.log.number ≤ (with_piece (s.begun ++ bytes)).log.log.number
-    unfolding here with_piece
+    seen_after : (bytes : List ℕ) → here.log.log.number ≤ (with_chunk (s.begun ++ bytes)).log.log.number
+    unfolding here with_chunk
     seen_after bytes =
-        subst (λ (x : Standing). here.log.log.number ≤ x.log.log.number) (pieces_join f s.last s.begun bytes) (number_rises f here (Piece bytes ∷ []))
+        subst (λ (x : Standing). here.log.log.number ≤ x.log.log.number) (chunks_join f s.last s.begun bytes) (number_rises f here (Piece bytes ∷ []))
 
-    -- some bytes more, which don't fill the piece
+    -- some bytes more, which don't fill the chunk
     pub sending_more : (next bytes : List ℕ) (u : Terminal W) (less : ℕ) → rest ≡ bytes ++ next → t.surface.grid.widths ≡ w → GoesBy width_of t u (Piece bytes ∷ []) → less + length bytes ≡ left → 0 < less
         → IsSending every start input next old now u number less
-    unfolding here with_piece
+    unfolding here with_chunk
     sending_more next bytes u less e same g count some =
         let long = length-append s.begun bytes in
         let room = s.room in
@@ -198,7 +195,7 @@ module _ {W : Type 0} (width_of : W → List ℕ → ℕ) (w : W) where
           from = s.from;
           whole = s.whole ∙ ap (λ l. s.read ++ l) e ∙ sym (append_assoc s.read bytes next);
           room = omega arith;
-          pieces = λ more. ap (in_pieces every []) (append_assoc s.read bytes more) ∙ s.pieces (bytes ++ more) ∙ ap (λ ps. s.done ++ ps) (grows every s.begun bytes more (omega arith));
+          chunks = λ more. ap (in_chunks every []) (append_assoc s.read bytes more) ∙ s.chunks (bytes ++ more) ∙ ap (λ ps. s.done ++ ps) (grows every s.begun bytes more (omega arith));
           appends = s.appends;
           leads = s.leads;
           last_is = s.last_is;
@@ -207,7 +204,7 @@ module _ {W : Type 0} (width_of : W → List ℕ → ℕ) (w : W) where
           answers = fed_on bytes u same g;
         }
 
-    -- ---- what is forgotten within a piece
+    -- ---- what is forgotten within a chunk
 
     forgotten_from : (v : Terminal W) (later : ℕ) → s.from ≤ later → later ≤ (standing_after f s.last (Piece s.begun ∷ [])).log.log.number → (number ≡ 0) ⊎ (later ≡ number) → t.surface.grid.widths ≡ w → Lightens width_of t v later
         → IsSending every start input rest old now v number left
@@ -220,7 +217,7 @@ module _ {W : Type 0} (width_of : W → List ℕ → ℕ) (w : W) where
       from = later;
       whole = s.whole;
       room = s.room;
-      pieces = s.pieces;
+      chunks = s.chunks;
       appends = s.appends;
       leads = s.leads;
       last_is = s.last_is;
@@ -246,68 +243,68 @@ module _ {W : Type 0} (width_of : W → List ℕ → ℕ) (w : W) where
             forgotten_from v later (omega (arith, seen, there, is)) (omega (arith, there, is)) (inl p.1) same l
         by_number (inr p) = by_asked p.1 (e ∙ ap (λ b. if b then number_of t.surface else number) p.0) s.asked
 
-    -- ---- a look after a piece
+    -- ---- a look after a chunk
 
     next_of : List ℕ → Standing
-    next_of piece = standing_after f s.last (looks (piece ∷ []))
+    next_of chunk = standing_after f s.last (looks (chunk ∷ []))
 
-    looked_on : (piece : List ℕ) (u : Terminal W) (a : AnswersAt s.from u (with_piece piece)) → AnswersAs s.from (looked f a.kept) (next_of piece)
-    unfolding next_of with_piece
-    looked_on piece u a =
-        subst (AnswersAs s.from (looked f a.kept)) (sym (standings_join f s.last (Piece piece ∷ []) (Look ∷ [])))
-        (answers_after f s.from a.kept (with_piece piece) (Look ∷ []) tt a.answers)
+    looked_on : (chunk : List ℕ) (u : Terminal W) (a : AnswersAt s.from u (with_chunk chunk)) → AnswersAs s.from (looked f a.kept) (next_of chunk)
+    unfolding next_of with_chunk
+    looked_on chunk u a =
+        subst (AnswersAs s.from (looked f a.kept)) (sym (standings_join f s.last (Piece chunk ∷ []) (Look ∷ [])))
+        (answers_after f s.from a.kept (with_chunk chunk) (Look ∷ []) tt a.answers)
 
-    update_is : (piece : List ℕ) (u : Terminal W) (a : AnswersAt s.from u (with_piece piece)) → update_at (looked f a.kept) number ≡ update_at (next_of piece) number
-    update_is piece u a = update_alike s.from number (looked f a.kept) (next_of piece) s.asked (looked_on piece u a)
+    update_is : (chunk : List ℕ) (u : Terminal W) (a : AnswersAt s.from u (with_chunk chunk)) → update_at (looked f a.kept) number ≡ update_at (next_of chunk) number
+    update_is chunk u a = update_alike s.from number (looked f a.kept) (next_of chunk) s.asked (looked_on chunk u a)
 
-    next_rises : (piece : List ℕ) → (with_piece piece).log.log.number ≤ (next_of piece).log.log.number
-    unfolding next_of with_piece
-    next_rises piece =
-        subst (λ (x : Standing). (with_piece piece).log.log.number ≤ x.log.log.number) (sym (standings_join f s.last (Piece piece ∷ []) (Look ∷ []))) (number_rises f (with_piece piece) (Look ∷ []))
+    next_rises : (chunk : List ℕ) → (with_chunk chunk).log.log.number ≤ (next_of chunk).log.log.number
+    unfolding next_of with_chunk
+    next_rises chunk =
+        subst (λ (x : Standing). (with_chunk chunk).log.log.number ≤ x.log.log.number) (sym (standings_join f s.last (Piece chunk ∷ []) (Look ∷ []))) (number_rises f (with_chunk chunk) (Look ∷ []))
 
-    -- the updates, where the piece that has begun is full
+    -- the updates, where the chunk that has begun is full
     full_is : (bytes more : List ℕ) → 0 < length bytes → length s.begun + length bytes ≡ every
-        → updates_from f every start (s.read ++ (bytes ++ more)) ≡ s.written ++ (update_at (next_of (s.begun ++ bytes)) number ++ updates_after f (next_of (s.begun ++ bytes)) (next_of (s.begun ++ bytes)).log.log.number (in_pieces every [] more))
+        → updates_from f every start (s.read ++ (bytes ++ more)) ≡ s.written ++ (update_at (next_of (s.begun ++ bytes)) number ++ updates_after f (next_of (s.begun ++ bytes)) (next_of (s.begun ++ bytes)).log.log.number (in_chunks every [] more))
     unfolding next_of
     full_is bytes more some full = all_is (bytes ++ more) ∙ ap (λ ps. s.written ++ updates_after f s.last number ps) (fills every s.begun bytes more some full)
 
     -- some bytes more, which fill it, and the update after them
     pub sending_next : (next bytes : List ℕ) (u v : Terminal W) (later : ℕ) (new : Option (List ℕ)) → rest ≡ bytes ++ next → t.surface.grid.widths ≡ w → GoesBy width_of t u (Piece bytes ∷ []) → length bytes ≡ left → 0 < left
-        → ((x : Standing) → IsAt u x → Sent f x number later v now new) → v.surface.grid.widths ≡ w → v.is_failed ≡ false
+        → ((x : Standing) → IsAt u x → UpdateWritten f x number later v now new) → v.surface.grid.widths ≡ w → v.is_failed ≡ false
         → IsSending every start input next old new v later every
-    unfolding next_of with_piece here
+    unfolding next_of with_chunk here
     sending_next next bytes u v later new e same g full some sends widths sound =
-        let piece = s.begun ++ bytes in
+        let chunk = s.begun ++ bytes in
         let a = fed_on bytes u same g in
         let sent = sends a.kept a.at in
-        let answers = looked_on piece u a in
-        let later_is : later ≡ (next_of piece).log.log.number = sent.next_is ∙ answers.logs.count in
+        let answers = looked_on chunk u a in
+        let later_is : later ≡ (next_of chunk).log.log.number = sent.next_is ∙ answers.logs.count in
         let seen = s.seen in
         let fed_rises = seen_after bytes in
-        let rises = next_rises piece in
-        let end_rises = number_rises f (next_of piece) (Piece [] ∷ []) in
+        let rises = next_rises chunk in
+        let end_rises = number_rises f (next_of chunk) (Piece [] ∷ []) in
         let room = s.room in
-        let update = update_at (next_of piece) number in
+        let update = update_at (next_of chunk) number in
         record {
           read = s.read ++ bytes;
-          done = s.done ++ piece ∷ [];
+          done = s.done ++ chunk ∷ [];
           begun = [];
           written = s.written ++ update;
-          last = next_of piece;
+          last = next_of chunk;
           from = later;
           whole = s.whole ∙ ap (λ l. s.read ++ l) e ∙ sym (append_assoc s.read bytes next);
           room = omega arith;
-          pieces = λ more. ap (in_pieces every []) (append_assoc s.read bytes more) ∙ s.pieces (bytes ++ more) ∙ ap (λ ps. s.done ++ ps) (fills every s.begun bytes more (omega arith) (omega arith)) ∙ sym (append_assoc s.done (piece ∷ []) (in_pieces every [] more));
-          appends = appends_both old now new s.written update s.appends (subst (Appends now new) (update_is piece u a) sent.appends);
-          leads = λ ps. ap (updates_after f start 0) (append_assoc s.done (piece ∷ []) ps) ∙ s.leads (piece ∷ ps)
-              ∙ ap (λ n. s.written ++ (update ++ updates_after f (next_of piece) n ps)) (sym later_is) ∙ sym (append_assoc s.written update (updates_after f (next_of piece) later ps));
-          last_is = ap (λ x. standing_after f x (looks (piece ∷ []))) s.last_is ∙ sym (standings_join f start (looks s.done) (looks (piece ∷ []))) ∙ ap (standing_after f start) (sym (looks-append s.done (piece ∷ [])));
+          chunks = λ more. ap (in_chunks every []) (append_assoc s.read bytes more) ∙ s.chunks (bytes ++ more) ∙ ap (λ ps. s.done ++ ps) (fills every s.begun bytes more (omega arith) (omega arith)) ∙ sym (append_assoc s.done (chunk ∷ []) (in_chunks every [] more));
+          appends = appends_both old now new s.written update s.appends (subst (Appends now new) (update_is chunk u a) sent.appends);
+          leads = λ ps. ap (updates_after f start 0) (append_assoc s.done (chunk ∷ []) ps) ∙ s.leads (chunk ∷ ps)
+              ∙ ap (λ n. s.written ++ (update ++ updates_after f (next_of chunk) n ps)) (sym later_is) ∙ sym (append_assoc s.written update (updates_after f (next_of chunk) later ps));
+          last_is = ap (λ x. standing_after f x (looks (chunk ∷ []))) s.last_is ∙ sym (standings_join f start (looks s.done) (looks (chunk ∷ []))) ∙ ap (standing_after f start) (sym (looks-append s.done (chunk ∷ [])));
           asked = inr refl;
           seen = omega (arith, later_is, end_rises);
-          answers = answers_at_rest width_of w later v (next_of piece) widths sound (record {
+          answers = answers_at_rest width_of w later v (next_of chunk) widths sound (record {
             kept = lightened f later (looked f a.kept);
             at = sent.at;
-            answers = answers_lightened width_of w s.from later (looked f a.kept) (next_of piece) (omega (arith, later_is, seen, fed_rises, rises)) answers;
+            answers = answers_lightened width_of w s.from later (looked f a.kept) (next_of chunk) (omega (arith, later_is, seen, fed_rises, rises)) answers;
           });
         }
 
@@ -316,8 +313,8 @@ module _ {W : Type 0} (width_of : W → List ℕ → ℕ) (w : W) where
     unfolding next_of
     at_end e = ap (updates_from f every start) (s.whole ∙ ap (λ l. s.read ++ l) e) ∙ all_is []
 
-    pub sending_all : (u : Terminal W) (later : ℕ) (new : Option (List ℕ)) → rest ≡ [] → ((x : Standing) → IsAt t x → Sent f x number later u now new) → Appends old new (updates_from f every start input)
-    unfolding with_piece
+    pub sending_all : (u : Terminal W) (later : ℕ) (new : Option (List ℕ)) → rest ≡ [] → ((x : Standing) → IsAt t x → UpdateWritten f x number later u now new) → Appends old new (updates_from f every start input)
+    unfolding with_chunk
     sending_all u later new e sends =
         let sent = sends s.answers.kept s.answers.at in
         let update = update_at (next_of s.begun) number in
@@ -329,10 +326,7 @@ module _ {W : Type 0} (width_of : W → List ℕ → ℕ) (w : W) where
     -- what was read, and bytes that were read after it
     pub sending_part : (next bytes : List ℕ) (remaining : Option (List ℕ)) → rest ≡ bytes ++ next → remaining ≡ Some next → SendsPart f every start input remaining old now
     sending_part next bytes remaining e known = record {
-      read = s.read ++ bytes;
-      rest = next;
-      whole = s.whole ∙ ap (λ l. s.read ++ l) e ∙ sym (append_assoc s.read bytes next);
-      remaining = known;
+      part = record { read = s.read ++ bytes; rest = next; whole = s.whole ∙ ap (λ l. s.read ++ l) e ∙ sym (append_assoc s.read bytes next); remaining = known };
       of_read = subst (AppendsPrefix old now) (sym (all_is bytes)) (prefix_so_far old now s.written _ s.appends);
       of_input = subst (AppendsPrefix old now) (sym (ap (updates_from f every start) s.whole ∙ all_is rest)) (prefix_so_far old now s.written _ s.appends);
     }
@@ -341,33 +335,27 @@ module _ {W : Type 0} (width_of : W → List ℕ → ℕ) (w : W) where
     pub sending_some : (next bytes : List ℕ) (u : Terminal W) (new remaining : Option (List ℕ)) → rest ≡ bytes ++ next → remaining ≡ Some next → t.surface.grid.widths ≡ w → GoesBy width_of t u (Piece bytes ∷ []) → length bytes ≡ left → 0 < left
         → ((x : Standing) → IsAt u x → AppendsPrefix now new (update_at (looked f x) number)) → SendsPart f every start input remaining old new
     sending_some next bytes u new remaining e known same g full some sends =
-        let piece = s.begun ++ bytes in
+        let chunk = s.begun ++ bytes in
         let room = s.room in
         let a = fed_on bytes u same g in
-        let first = subst (AppendsPrefix now new) (update_is piece u a) (sends a.kept a.at) in
+        let first = subst (AppendsPrefix now new) (update_is chunk u a) (sends a.kept a.at) in
         record {
-          read = s.read ++ bytes;
-          rest = next;
-          whole = s.whole ∙ ap (λ l. s.read ++ l) e ∙ sym (append_assoc s.read bytes next);
-          remaining = known;
+          part = record { read = s.read ++ bytes; rest = next; whole = s.whole ∙ ap (λ l. s.read ++ l) e ∙ sym (append_assoc s.read bytes next); remaining = known };
           of_read = subst (AppendsPrefix old new) (sym (ap (λ l. updates_from f every start (s.read ++ l)) (sym (append-nil bytes)) ∙ full_is bytes [] (omega arith) (omega arith)))
-              (prefix_after old now new s.written (update_at (next_of piece) number) _ s.appends first);
+              (prefix_after old now new s.written (update_at (next_of chunk) number) _ s.appends first);
           of_input = subst (AppendsPrefix old new) (sym (ap (updates_from f every start) (s.whole ∙ ap (λ l. s.read ++ l) e) ∙ full_is bytes next (omega arith) (omega arith)))
-              (prefix_after old now new s.written (update_at (next_of piece) number) _ s.appends first);
+              (prefix_after old now new s.written (update_at (next_of chunk) number) _ s.appends first);
         }
 
     -- the first bytes of the update at the end
     pub sending_last : (new remaining : Option (List ℕ)) → rest ≡ [] → remaining ≡ Some rest → ((x : Standing) → IsAt t x → AppendsPrefix now new (update_at (looked f x) number)) → SendsPart f every start input remaining old new
-    unfolding with_piece
+    unfolding with_chunk
     sending_last new remaining e known sends =
         let first = subst (AppendsPrefix now new) (update_is s.begun t s.answers) (sends s.answers.kept s.answers.at) in
         let all = prefix_after old now new s.written (update_at (next_of s.begun) number) [] s.appends first in
         let read_is : input ≡ s.read = s.whole ∙ ap (λ l. s.read ++ l) e ∙ append-nil s.read in
         record {
-          read = s.read;
-          rest = rest;
-          whole = s.whole;
-          remaining = known;
+          part = record { read = s.read; rest = rest; whole = s.whole; remaining = known };
           of_read = subst (λ l. AppendsPrefix old new (updates_from f every start l)) read_is (subst (AppendsPrefix old new) (sym (at_end e)) all);
           of_input = subst (AppendsPrefix old new) (sym (at_end e)) all;
         }
@@ -378,48 +366,48 @@ module _ {W : Type 0} (width_of : W → List ℕ → ℕ) (w : W) where
     Past x = 2 ^ 64 ≤ x.log.log.number
 
     -- the whole of the input leads further than its prefix
-    past_prefix : (prefix remaining : History) → standing_after f start (looks (in_pieces every [] input)) ≡ standing_after f s.last (prefix ++ remaining) → 2 ^ 64 ≤ (standing_after f s.last prefix).log.log.number → 2 ^ 64 ≤ number_after f every start input
+    past_prefix : (prefix remaining : History) → standing_after f start (looks (in_chunks every [] input)) ≡ standing_after f s.last (prefix ++ remaining) → 2 ^ 64 ≤ (standing_after f s.last prefix).log.log.number → 2 ^ 64 ≤ number_after f every start input
     past_prefix prefix remaining e n =
         let whole = e ∙ standings_join f s.last prefix remaining in
         let rises = number_rises f (standing_after f s.last prefix) remaining in
         subst (λ (x : Standing). 2 ^ 64 ≤ x.log.log.number) (sym whole) (omega arith)
 
-    -- the pieces from the one that has begun on
-    pieces_after : (ps : List (List ℕ)) → in_pieces every [] input ≡ s.done ++ ps → standing_after f start (looks (in_pieces every [] input)) ≡ standing_after f s.last (looks ps)
-    pieces_after ps e =
+    -- the chunks from the one that has begun on
+    chunks_after : (ps : List (List ℕ)) → in_chunks every [] input ≡ s.done ++ ps → standing_after f start (looks (in_chunks every [] input)) ≡ standing_after f s.last (looks ps)
+    chunks_after ps e =
         ap (λ qs. standing_after f start (looks qs)) e ∙ ap (standing_after f start) (looks-append s.done ps) ∙ standings_join f start (looks s.done) (looks ps) ∙ ap (λ x. standing_after f x (looks ps)) (sym s.last_is)
 
-    input_is : (bytes next : List ℕ) → rest ≡ bytes ++ next → in_pieces every [] input ≡ s.done ++ in_pieces every s.begun (bytes ++ next)
-    input_is bytes next e = ap (in_pieces every []) (s.whole ∙ ap (λ l. s.read ++ l) e) ∙ s.pieces (bytes ++ next)
+    input_is : (bytes next : List ℕ) → rest ≡ bytes ++ next → in_chunks every [] input ≡ s.done ++ in_chunks every s.begun (bytes ++ next)
+    input_is bytes next e = ap (in_chunks every []) (s.whole ∙ ap (λ l. s.read ++ l) e) ∙ s.chunks (bytes ++ next)
 
     pub past_feed : (next bytes : List ℕ) → rest ≡ bytes ++ next → t.surface.grid.widths ≡ w → length bytes ≤ left → NeedsNumber width_of t (Piece bytes ∷ []) → 2 ^ 64 ≤ number_after f every start input
     unfolding here
     past_feed next bytes e same count n =
         let room = s.room in
-        let piece = s.begun ++ bytes in
+        let chunk = s.begun ++ bytes in
         let h = holds every s.begun bytes next (omega arith) in
-        past_prefix (Piece piece ∷ []) (Piece h.more ∷ Look ∷ looks h.remaining)
-        (pieces_after ((piece ++ h.more) ∷ h.remaining) (input_is bytes next e ∙ ap (λ ps. s.done ++ ps) h.are) ∙ sym (standings_cut actions_join f s.last piece h.more (Look ∷ looks h.remaining)))
-        (subst (λ (x : Standing). 2 ^ 64 ≤ x.log.log.number) (pieces_join f s.last s.begun bytes) (needs_there width_of w s.from t here (Piece bytes ∷ []) tt same s.answers n))
+        past_prefix (Piece chunk ∷ []) (Piece h.more ∷ Look ∷ looks h.remaining)
+        (chunks_after ((chunk ++ h.more) ∷ h.remaining) (input_is bytes next e ∙ ap (λ ps. s.done ++ ps) h.are) ∙ sym (standings_cut actions_join f s.last chunk h.more (Look ∷ looks h.remaining)))
+        (subst (λ (x : Standing). 2 ^ 64 ≤ x.log.log.number) (chunks_join f s.last s.begun bytes) (needs_there width_of w s.from t here (Piece bytes ∷ []) tt same s.answers n))
 
-    -- a look that is refused a number after a piece
-    look_needs : (piece : List ℕ) (u : Terminal W) → u.surface.grid.widths ≡ w → AnswersAt s.from u (with_piece piece) → NeedsNumber width_of u (Look ∷ []) → 2 ^ 64 ≤ (next_of piece).log.log.number
-    unfolding next_of with_piece
-    look_needs piece u same a n =
-        subst (λ (x : Standing). 2 ^ 64 ≤ x.log.log.number) (sym (standings_join f s.last (Piece piece ∷ []) (Look ∷ []))) (needs_there width_of w s.from u (with_piece piece) (Look ∷ []) tt same a n)
+    -- a look that is refused a number after a chunk
+    look_needs : (chunk : List ℕ) (u : Terminal W) → u.surface.grid.widths ≡ w → AnswersAt s.from u (with_chunk chunk) → NeedsNumber width_of u (Look ∷ []) → 2 ^ 64 ≤ (next_of chunk).log.log.number
+    unfolding next_of with_chunk
+    look_needs chunk u same a n =
+        subst (λ (x : Standing). 2 ^ 64 ≤ x.log.log.number) (sym (standings_join f s.last (Piece chunk ∷ []) (Look ∷ []))) (needs_there width_of w s.from u (with_chunk chunk) (Look ∷ []) tt same a n)
 
     pub past_look : (next bytes : List ℕ) (u : Terminal W) → rest ≡ bytes ++ next → t.surface.grid.widths ≡ w → u.surface.grid.widths ≡ w → GoesBy width_of t u (Piece bytes ∷ []) → length bytes ≡ left → 0 < left → NeedsNumber width_of u (Look ∷ []) → 2 ^ 64 ≤ number_after f every start input
     unfolding next_of
     past_look next bytes u e same widths g full some n =
         let room = s.room in
-        let piece = s.begun ++ bytes in
-        past_prefix (looks (piece ∷ [])) (looks (in_pieces every [] next))
-        (pieces_after (piece ∷ in_pieces every [] next) (input_is bytes next e ∙ ap (λ ps. s.done ++ ps) (fills every s.begun bytes next (omega arith) (omega arith))))
-        (look_needs piece u widths (fed_on bytes u same g) n)
+        let chunk = s.begun ++ bytes in
+        past_prefix (looks (chunk ∷ [])) (looks (in_chunks every [] next))
+        (chunks_after (chunk ∷ in_chunks every [] next) (input_is bytes next e ∙ ap (λ ps. s.done ++ ps) (fills every s.begun bytes next (omega arith) (omega arith))))
+        (look_needs chunk u widths (fed_on bytes u same g) n)
 
     pub past_end : rest ≡ [] → t.surface.grid.widths ≡ w → NeedsNumber width_of t (Look ∷ []) → 2 ^ 64 ≤ number_after f every start input
-    unfolding next_of with_piece
+    unfolding next_of with_chunk
     past_end e same n =
         past_prefix (looks (s.begun ∷ [])) []
-        (pieces_after (s.begun ∷ []) (ap (in_pieces every []) (s.whole ∙ ap (λ l. s.read ++ l) e) ∙ s.pieces []))
+        (chunks_after (s.begun ∷ []) (ap (in_chunks every []) (s.whole ∙ ap (λ l. s.read ++ l) e) ∙ s.chunks []))
         (look_needs s.begun t same s.answers n)

@@ -36,7 +36,7 @@ use Rattle.terminal_render.specs.Lists.{all_rendered}
 use Rattle.terminal_render.specs.Rendering.{rendering}
 use Rattle.terminal_viewers.specs.Showing.{CanAnswer}
 use Rattle.terminal_render.specs.EncodedSizes.{AreShort, all_encoded_size, prints_in, runs_in}
-use Rattle.terminal_render.specs.Spelling.{HaveSpellings, IsSpelledScreen, IsSpelledState, IsSpelledText}
+use Rattle.terminal_render.specs.Spelling.{HaveEncodings, IsSpelledScreen, IsSpelledState, IsSpelledText}
 use Rattle.terminal_render.proofs.ViewLemmas.{display_on_is, replay_size}
 use Rattle.terminal_table.specs.Alone as alone
 use Rattle.terminal_table.specs.History.{History, Piece, Look, Looked, Forget}
@@ -93,7 +93,7 @@ module _ {W : Type 0} (width_of : W → List ℕ → ℕ) where
     display = display_on_is (state_in t) (state_is t s);
     sound = subst (λ g. IsSoundDisplay g (display_on (state_in t).screen)) e s.cells;
     spelled = s.spelled.surface.spelled;
-    spellings = s.spelled.surface.kept;
+    encodings = s.spelled.surface.kept;
     shows = subst (λ g. Shows g viewer.state.screen number (state_in t).screen t.surface.log) e shows;
   }
 
@@ -215,7 +215,7 @@ module _ {W : Type 0} (width_of : W → List ℕ → ℕ) where
     tall = subst (λ (x : State). height x.screen < 2 ^ 32) s.stands.state s.spelled.surface.tall;
     sound = subst (λ (x : State). IsSoundDisplay (of t) (display_on x.screen)) s.stands.state s.cells;
     spelled = record { state = subst IsSpelledState s.stands.state (record { screen = s.spelled.surface.spelled; saved = s.spelled.saved }); held = subst IsSpelledText s.stands.run s.spelled.run };
-    spellings = subst (λ (x : State). HaveSpellings x.screen.width (height x.screen) t.surface.log.log.entries) s.stands.state s.spelled.surface.kept;
+    encodings = subst (λ (x : State). HaveEncodings x.screen.width (height x.screen) t.surface.log.log.entries) s.stands.state s.spelled.surface.kept;
     counted = counted;
   }
 
@@ -292,12 +292,12 @@ module _ {W : Type 0} (width_of : W → List ℕ → ℕ) where
     abbrev screen : Screen
     screen = (state_in t).screen
 
-    spelled_update : ((x : Screen) (log : Sized) (n : ℕ) → IsDisplay (display_on x) → IsSpelledScreen x → HaveSpellings x.width (height x) log.log.entries → HaveSpellings x.width (height x) (update_changes x log n)) → HaveSpellings screen.width (height screen) (changes_for t number)
+    spelled_update : ((x : Screen) (log : Sized) (n : ℕ) → IsDisplay (display_on x) → IsSpelledScreen x → HaveEncodings x.width (height x) log.log.entries → HaveEncodings x.width (height x) (update_changes x log n)) → HaveEncodings screen.width (height screen) (changes_for t number)
     spelled_update law = law screen t.surface.log number (display_on_is (state_in t) (state_is t s)) s.spelled.surface.spelled s.spelled.surface.kept
 
-    pub short : ((x : Screen) (log : Sized) (n : ℕ) → IsDisplay (display_on x) → IsSpelledScreen x → HaveSpellings x.width (height x) log.log.entries → HaveSpellings x.width (height x) (update_changes x log n))
-        → ((w h : ℕ) (changes : List ChangeValue) → HaveSpellings w h changes → all_rendered changes w h ≡ None → ⊥)
-        → ((w h : ℕ) (changes : List ChangeValue) (actions : List StreamAction) → 0 < w → w < 2 ^ 32 → 0 < h → h < 2 ^ 32 → HaveSpellings w h changes → all_rendered changes w h ≡ Some actions → length (stream_text actions) ≤ all_encoded_size changes)
+    pub short : ((x : Screen) (log : Sized) (n : ℕ) → IsDisplay (display_on x) → IsSpelledScreen x → HaveEncodings x.width (height x) log.log.entries → HaveEncodings x.width (height x) (update_changes x log n))
+        → ((w h : ℕ) (changes : List ChangeValue) → HaveEncodings w h changes → all_rendered changes w h ≡ None → ⊥)
+        → ((w h : ℕ) (changes : List ChangeValue) (actions : List StreamAction) → 0 < w → w < 2 ^ 32 → 0 < h → h < 2 ^ 32 → HaveEncodings w h changes → all_rendered changes w h ≡ Some actions → length (stream_text actions) ≤ all_encoded_size changes)
         → length (update_for t number) ≤ all_encoded_size (changes_for t number)
     short law rendered size =
         let spelled = spelled_update law in
@@ -306,16 +306,16 @@ module _ {W : Type 0} (width_of : W → List ℕ → ℕ) where
         subst (λ o. length (bytes_of o) ≤ all_encoded_size (changes_for t number)) (sym found.1)
         (size screen.width (height screen) (changes_for t number) found.0 lawful.wide_enough s.spelled.surface.wide (omega (arith, lawful.row_in)) s.spelled.surface.tall spelled found.1)
 
-    pub each_short : ((x : Screen) (log : Sized) (n : ℕ) → IsDisplay (display_on x) → IsSpelledScreen x → HaveSpellings x.width (height x) log.log.entries → HaveSpellings x.width (height x) (update_changes x log n))
-        → ((w h : ℕ) (changes : List ChangeValue) → 0 < w → w < 2 ^ 32 → 0 < h → h < 2 ^ 32 → HaveSpellings w h changes → AreShort w h changes)
+    pub each_short : ((x : Screen) (log : Sized) (n : ℕ) → IsDisplay (display_on x) → IsSpelledScreen x → HaveEncodings x.width (height x) log.log.entries → HaveEncodings x.width (height x) (update_changes x log n))
+        → ((w h : ℕ) (changes : List ChangeValue) → 0 < w → w < 2 ^ 32 → 0 < h → h < 2 ^ 32 → HaveEncodings w h changes → AreShort w h changes)
         → AreShort screen.width (height screen) (changes_for t number)
     each_short law size =
         let lawful = (state_is t s).lawful in
         size screen.width (height screen) (changes_for t number) lawful.wide_enough s.spelled.surface.wide (omega (arith, lawful.row_in)) s.spelled.surface.tall (spelled_update law)
 
-    pub prints : ((x : Screen) (log : Sized) (n : ℕ) → IsDisplay (display_on x) → IsSpelledScreen x → HaveSpellings x.width (height x) log.log.entries → HaveSpellings x.width (height x) (update_changes x log n))
-        → ((w h : ℕ) (changes : List ChangeValue) → HaveSpellings w h changes → all_rendered changes w h ≡ None → ⊥)
-        → ((w h : ℕ) (changes : List ChangeValue) (actions : List StreamAction) → 0 < w → w < 2 ^ 32 → 0 < h → h < 2 ^ 32 → HaveSpellings w h changes → all_rendered changes w h ≡ Some actions → IsWritable actions)
+    pub prints : ((x : Screen) (log : Sized) (n : ℕ) → IsDisplay (display_on x) → IsSpelledScreen x → HaveEncodings x.width (height x) log.log.entries → HaveEncodings x.width (height x) (update_changes x log n))
+        → ((w h : ℕ) (changes : List ChangeValue) → HaveEncodings w h changes → all_rendered changes w h ≡ None → ⊥)
+        → ((w h : ℕ) (changes : List ChangeValue) (actions : List StreamAction) → 0 < w → w < 2 ^ 32 → 0 < h → h < 2 ^ 32 → HaveEncodings w h changes → all_rendered changes w h ≡ Some actions → IsWritable actions)
         → WritableListsReadBack
         → ((w h : ℕ) (changes : List ChangeValue) (actions : List StreamAction) → all_rendered changes w h ≡ Some actions → prints_in actions ≡ runs_in changes)
         → update_prints t number ≡ runs_in (changes_for t number)
@@ -341,17 +341,17 @@ module _ {W : Type 0} (width_of : W → List ℕ → ℕ) where
 
   module _ (v later : Terminal W) (change : ChangeValue) (actions : List StreamAction) (sv : IsSound width_of v) (idle : IsIdle v)
       (sent : rendering change (state_in v).screen.width (height (state_in v).screen) ≡ Some actions) (writable : IsWritable actions) (g : GoesBy width_of v later (Piece (stream_text actions) ∷ [])) where
-    sent_at : rendering change sv.view.state.screen.width (height sv.view.state.screen) ≡ Some actions
-    sent_at = subst (λ (x : State). rendering change x.screen.width (height x.screen) ≡ Some actions) sv.stands.state sent
+    encoded_at : rendering change sv.view.state.screen.width (height sv.view.state.screen) ≡ Some actions
+    encoded_at = subst (λ (x : State). rendering change x.screen.width (height x.screen) ≡ Some actions) sv.stands.state sent
 
     pub rendered_shown : RenderedTextsHaveTheEffect → state_in later ≡ record (state_in v) { screen = (effect (of v) (display_on (state_in v).screen) change).screen }
     rendered_shown law =
         (g.stands sv.view sv.stands).state
-        ∙ ap (λ (x : View). x.state) (law (of v) sv.view (display_on (state_in v).screen) change actions (ready_is v sv idle) (idle_view width_of v sv.view idle sv.stands) writable (ap (λ (x : State). x.screen) sv.stands.state) sent_at)
+        ∙ ap (λ (x : View). x.state) (law (of v) sv.view (display_on (state_in v).screen) change actions (ready_is v sv idle) (idle_view width_of v sv.view idle sv.stands) writable (ap (λ (x : State). x.screen) sv.stands.state) encoded_at)
         ∙ ap (λ (x : State). record x { screen = (effect (of v) (display_on (state_in v).screen) change).screen }) (sym sv.stands.state)
 
     pub rendered_idle : RenderedTextsLeaveIdle → IsIdle later
     rendered_idle law =
         let there = g.stands sv.view sv.stands in
-        let quiet = law (of v) sv.view change actions (ready_is v sv idle) (idle_view width_of v sv.view idle sv.stands) writable sent_at in
+        let quiet = law (of v) sv.view change actions (ready_is v sv idle) (idle_view width_of v sv.view idle sv.stands) writable encoded_at in
         record { run = there.run ∙ quiet.run; unfinished = there.unfinished ∙ quiet.stream }

@@ -103,12 +103,12 @@ full_screen : screen_after 2 1 (shown (codes "ab")) ≡ screen_of 2 (letters (co
 unfolding table
 full_screen = refl
 
-full_sent : bytes_of (all_rendered full_painted 2 1) ≡ painted (printed (codes "ab") ++ csi (codes "1;2H") ++ plain_pen ++ printed (codes "b") ++ plain_pen)
+full_encoded : bytes_of (all_rendered full_painted 2 1) ≡ painted (printed (codes "ab") ++ csi (codes "1;2H") ++ plain_pen ++ printed (codes "b") ++ plain_pen)
 unfolding sending
-full_sent = refl
+full_encoded = refl
 
 pub full_bytes : update_after 2 1 (shown (codes "ab")) 0 ≡ painted (printed (codes "ab") ++ csi (codes "1;2H") ++ plain_pen ++ printed (codes "b") ++ plain_pen)
-full_bytes = update_bytes 2 1 (shown (codes "ab")) (screen_of 2 (letters (codes "ab") ∷ []) 2 0) full_painted _ full_screen full_changes full_sent
+full_bytes = update_bytes 2 1 (shown (codes "ab")) (screen_of 2 (letters (codes "ab") ∷ []) 2 0) full_painted _ full_screen full_changes full_encoded
 
 abbrev short_painted : List ChangeValue
 short_painted = painted_changes (Text (codes "a") ∷ CursorPosition (Absolute 0) (Relative (pos 1)) ∷ Text (codes "b") ∷ CursorPosition (Absolute 1) (Absolute 1) ∷ [])
@@ -121,12 +121,12 @@ short_screen : screen_after 2 2 (shown (codes "a\r\nb")) ≡ screen_of 2 (letter
 unfolding table
 short_screen = refl
 
-short_sent : bytes_of (all_rendered short_painted 2 2) ≡ painted (printed (codes "a") ++ csi (codes "B") ++ csi (codes "1G") ++ printed (codes "b") ++ csi (codes "2;2H"))
+short_encoded : bytes_of (all_rendered short_painted 2 2) ≡ painted (printed (codes "a") ++ csi (codes "B") ++ csi (codes "1G") ++ printed (codes "b") ++ csi (codes "2;2H"))
 unfolding sending
-short_sent = refl
+short_encoded = refl
 
 pub short_bytes : update_after 2 2 (shown (codes "a\r\nb")) 0 ≡ painted (printed (codes "a") ++ csi (codes "B") ++ csi (codes "1G") ++ printed (codes "b") ++ csi (codes "2;2H"))
-short_bytes = update_bytes 2 2 (shown (codes "a\r\nb")) (screen_of 2 (letters (codes "a ") ∷ letters (codes "b ") ∷ []) 1 1) short_painted _ short_screen short_changes short_sent
+short_bytes = update_bytes 2 2 (shown (codes "a\r\nb")) (screen_of 2 (letters (codes "a ") ∷ letters (codes "b ") ∷ []) 1 1) short_painted _ short_screen short_changes short_encoded
 
 -- ---- what is written of three letters
 
@@ -137,9 +137,9 @@ two_changes : (log : Sized) → update_changes (screen_of 3 (letters (codes "ab 
 unfolding is_blank_of
 two_changes log = simp (attributes_alike, text_ab)
 
-two_sent : bytes_of (all_rendered two_painted 3 1) ≡ painted (printed (codes "ab") ++ csi (codes "1;3H"))
+two_encoded : bytes_of (all_rendered two_painted 3 1) ≡ painted (printed (codes "ab") ++ csi (codes "1;3H"))
 unfolding sending
-two_sent = refl
+two_encoded = refl
 
 abbrev two : Standing
 two = standing_after program_width (new_standing 3 1) (looks (codes "ab" ∷ []))
@@ -154,7 +154,7 @@ two_screen = refl
 two_bytes : update_of two.view.state.screen two.log 0 ≡ painted (printed (codes "ab") ++ csi (codes "1;3H"))
 two_bytes =
     ap (λ (s : Screen). update_of s two.log 0) two_screen
-    ∙ ap (λ (cs : List ChangeValue). bytes_of (all_rendered cs 3 1)) (two_changes two.log) ∙ two_sent
+    ∙ ap (λ (cs : List ChangeValue). bytes_of (all_rendered cs 3 1)) (two_changes two.log) ∙ two_encoded
 
 third_bytes : update_of three.view.state.screen three.log two.log.log.number ++ [] ≡ printed (codes "c")
 unfolding table sending
@@ -191,14 +191,14 @@ middle_new : screen_after 3 1 (shown (codes "axc" ++ csi (codes "1;2H"))) ≡ sc
 unfolding table
 middle_new = refl
 
-middle_sent : bytes_of (all_rendered middle_patched 3 1) ≡ osc (codes "2;") ++ csi (codes "1;2H") ++ plain_pen ++ printed (codes "x") ++ csi (codes "1;2H") ++ plain_pen ++ csi (codes "?25h")
+middle_encoded : bytes_of (all_rendered middle_patched 3 1) ≡ osc (codes "2;") ++ csi (codes "1;2H") ++ plain_pen ++ printed (codes "x") ++ csi (codes "1;2H") ++ plain_pen ++ csi (codes "?25h")
 unfolding sending
-middle_sent = refl
+middle_encoded = refl
 
 pub middle_bytes : patch_between 3 1 (shown (codes "abc")) (shown (codes "axc" ++ csi (codes "1;2H")))
     ≡ osc (codes "2;") ++ csi (codes "1;2H") ++ plain_pen ++ printed (codes "x") ++ csi (codes "1;2H") ++ plain_pen ++ csi (codes "?25h")
 middle_bytes = patch_bytes 3 1 (shown (codes "abc")) (shown (codes "axc" ++ csi (codes "1;2H"))) (screen_of 3 (letters (codes "abc") ∷ []) 3 0) (screen_of 3 (letters (codes "axc") ∷ []) 1 0)
-    middle_patched _ middle_old middle_new middle_changes middle_sent
+    middle_patched _ middle_old middle_new middle_changes middle_encoded
 
 abbrev pending_patched : List ChangeValue
 pending_patched = patched_changes
@@ -213,12 +213,12 @@ pending_old : screen_after 3 1 (shown (codes "ab")) ≡ screen_of 3 (letters (co
 unfolding table
 pending_old = refl
 
-pending_sent : bytes_of (all_rendered pending_patched 3 1)
+pending_encoded : bytes_of (all_rendered pending_patched 3 1)
     ≡ osc (codes "2;") ++ csi (codes "1;3H") ++ plain_pen ++ printed (codes "c") ++ csi (codes "1;3H") ++ plain_pen ++ printed (codes "c") ++ plain_pen ++ csi (codes "?25h")
 unfolding sending
-pending_sent = refl
+pending_encoded = refl
 
 pub pending_bytes : patch_between 3 1 (shown (codes "ab")) (shown (codes "abc"))
     ≡ osc (codes "2;") ++ csi (codes "1;3H") ++ plain_pen ++ printed (codes "c") ++ csi (codes "1;3H") ++ plain_pen ++ printed (codes "c") ++ plain_pen ++ csi (codes "?25h")
 pending_bytes = patch_bytes 3 1 (shown (codes "ab")) (shown (codes "abc")) (screen_of 3 (letters (codes "ab ") ∷ []) 2 0) (screen_of 3 (letters (codes "abc") ∷ []) 3 0)
-    pending_patched _ pending_old middle_old pending_changes pending_sent
+    pending_patched _ pending_old middle_old pending_changes pending_encoded

@@ -1,6 +1,6 @@
 -- What reading an input feeds to a terminal that forgets what nobody reads.
 use Rattle.std.specs.Prelude.{◌≡◌, ◌≤◌, ◌^◌, ℕ, List, [], ◌∷◌, ◌++◌, Option, Some, None}
-use Rattle.terminal.specs.Sent.{IsAt, IsCounted}
+use Rattle.terminal.specs.Written.{IsAt, IsCounted}
 use Rattle.terminal.specs.Terminal.{Terminal}
 use Rattle.terminal_table.specs.History.{Piece}
 use Rattle.terminal_viewers.specs.Updates.{Standing, standing_after}

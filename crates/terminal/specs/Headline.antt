@@ -33,7 +33,7 @@ pub record GoesBy {W : Type 0} (width_of : W → List ℕ → ℕ) (before now :
   pub widths : now.surface.grid.widths ≡ before.surface.grid.widths
   pub sound : now.is_failed ≡ false
 
--- However the bytes are cut: feeding two pieces is feeding their bytes joined.
+-- However the bytes are cut: feeding two chunks is feeding their bytes joined.
 abbrev pub PiecesJoin : {W : Type 0} → (W → List ℕ → ℕ) → Type 0
 PiecesJoin {W} width_of = (first between last : Terminal W) (x y : List ℕ)
     → GoesBy width_of first between (Piece x ∷ []) → GoesBy width_of between last (Piece y ∷ [])

@@ -8,7 +8,7 @@ pub mod Watched
 pub mod WatchedView
 pub mod Shown
 pub mod Fed
-pub mod Sent
+pub mod Written
 pub mod Viewing
 pub mod Samples
 pub mod Groups

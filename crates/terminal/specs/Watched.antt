@@ -1,5 +1,6 @@
 -- A reader or a writer that is watched.
-use Rattle.std.specs.Prelude.{ℕ, ◌+◌, ◌^◌, ◌-◌, min, Bool, true, ◌&&◌, ◌==◌, not, List, length, Result, Ok, Err}
+use Rattle.std.specs.Prelude.{◌≡◌, ℕ, ◌+◌, ◌^◌, ◌-◌, min, Bool, true, false, ◌&&◌, ◌==◌, not}
+use Rattle.std.specs.Prelude.{List, length, Result, Ok, Err}
 
 -- what is watched, whether it has failed, whether it was called after that, how often it was read and how often it was
 -- flushed, and whether the last write or flush was a flush that was no fault
@@ -10,6 +11,11 @@ pub record Watched (T : Type 0) : Type 0 where
   pub reads : ℕ
   pub flushes : ℕ
   pub is_flushed : Bool
+
+-- a reader that hasn't failed, and that nothing was read from
+pub record IsUnread {R : Type 0} (reader : Watched R) : Type 0 where
+  pub not_failed : reader.has_failed ≡ false
+  pub unread : reader.reads ≡ 0
 
 -- one more, up to the greatest number of 64 bits
 abbrev pub counted : ℕ → ℕ

@@ -5,9 +5,9 @@ ghost use Rattle.std.specs.Io.KnownBytes.{Appends, IsAtEnd, Keeps};
 ghost use Rattle.std.specs.String.{string_bytes};
 ghost use Rattle.cell_surface.specs.Surface.{shown_by};
 ghost use Rattle.terminal.specs.Fed.{Feeds, FeedingNeedsNumber};
-ghost use Rattle.terminal.specs.Sent.{Lightens};
+ghost use Rattle.terminal.specs.Written.{Lightens};
 ghost use Rattle.terminal.specs.Shown.{AppendsPrefix, rows_shown};
-ghost use Rattle.terminal.specs.Watched.{counted};
+ghost use Rattle.terminal.specs.Watched.{IsUnread, counted};
 ghost use Rattle.terminal_table.specs.History.{Piece, Look};
 ghost use Rattle.terminal_table.specs.Logged.{log_of};
 ghost use Rattle.terminal_table.specs.Meaning.{meaning};
@@ -58,8 +58,7 @@ fn feed_all<R: Read, W: Widths + Drop>(
     reader: &mut Watched<R>,
     terminal: &mut Terminal<W>,
 ) -> Result<(), RunError>
-    requires not_failed { reader.old.has_failed ≡ false }
-    requires unread { reader.old.reads ≡ 0 }
+    requires reader { IsUnread reader.old }
     requires sound { terminal.old.is_failed ≡ false }
     ensures ok { OnOk result (Feeds (λ w. W.width_of w) (R.remaining reader.old.inner) terminal.old terminal.new) }
     ensures sound { OnOk result (terminal.new.is_failed ≡ false) }
@@ -99,8 +98,7 @@ fn read_all<R: Read, W: Widths + Drop>(
 ) -> Result<Terminal<W>, RunError>
     requires width { (0 < width) × (width < 2 ^ 32) }
     requires height { (0 < height) × (height < 2 ^ 32) }
-    requires not_failed { reader.old.has_failed ≡ false }
-    requires unread { reader.old.reads ≡ 0 }
+    requires reader { IsUnread reader.old }
     ensures ok { IfOk result
         (λ t. IfSome (R.remaining reader.old.inner)
         (λ input. (shown_by t.surface).screen
@@ -132,8 +130,7 @@ fn rows_of<R: Read, W: Widths + Drop>(
 ) -> Result<String, RunError>
     requires width { (0 < width) × (width < 2 ^ 32) }
     requires height { (0 < height) × (height < 2 ^ 32) }
-    requires not_failed { reader.old.has_failed ≡ false }
-    requires unread { reader.old.reads ≡ 0 }
+    requires reader { IsUnread reader.old }
     ensures ok { IfOk result
         (λ text. IfSome (R.remaining reader.old.inner)
         (λ input. string_bytes text ≡ rows_shown (W.width_of widths) width height input)) }
@@ -170,8 +167,7 @@ pub fn show<R: Read, T: Write, W: Widths + Drop>(
 ) -> Result<(), RunError>
     requires width { (0 < width) × (width < 2 ^ 32) }
     requires height { (0 < height) × (height < 2 ^ 32) }
-    requires reader { reader.old.has_failed ≡ false }
-    requires unread { reader.old.reads ≡ 0 }
+    requires reader { IsUnread reader.old }
     requires writer { writer.old.has_failed ≡ false }
     ensures ok { OnOk result
         (IfSome (R.remaining reader.old.inner)

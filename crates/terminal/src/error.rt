@@ -1,4 +1,4 @@
-//! What a terminal's calls may refuse.
+//! Why `show` or `run` ended early.
 ghost use Rattle.std.specs.Prelude.{◌≡◌};
 ghost use Rattle.terminal.specs.declared.error.RunError.TheVariants.{Terminal};
 ghost use Rattle.terminal_steps.specs.declared.error.TerminalError.TheVariants.{Memory};

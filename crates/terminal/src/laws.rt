@@ -26,7 +26,7 @@ use cell_base::Widths;
 use terminal_table::laws::single_actions_are_their_rows;
 
 /// Each terminal that hasn't failed is at a view (`StandsAt`), with a lawful state and a run without controls;
-/// and its screen, the saved pen, the run and each change that its log keeps have a spelling, so that they can be
+/// and its screen, the saved pen, the run and each change that its log keeps have an encoding, so that they can be
 /// sent.
 pub fn terminals_stand<W: Widths + Drop>(terminal: &Terminal<W>)
     ensures stands { terminal.now.is_failed ≡ false → (view : View) × StandsAt terminal.now view × IsView view }
@@ -35,7 +35,7 @@ pub fn terminals_stand<W: Widths + Drop>(terminal: &Terminal<W>)
     terminal.stands();
 }
 
-/// Going on by one history and then by another is going on by both; and feeding two pieces is feeding
+/// Going on by one history and then by another is going on by both; and feeding two chunks is feeding
 /// their bytes joined. So between two looks only the joined bytes count.
 pub fn histories_join<W: Widths>()
     ensures in_turn { (first : Terminal W) (between : Terminal W) (last : Terminal W) (one : History) (other : History)

@@ -1,11 +1,12 @@
 //! A terminal: its screen and replies, kept from the bytes that an application writes.
 //!
 //! - `driver`: `show`, which runs a reader's bytes through a terminal.
-//! - `error`: what a terminal's calls may refuse.
+//! - `error`: why `show` or `run` ended early.
 //! - `laws`: laws of terminals, as the contracts of functions that do nothing.
 //! - `steps`: steps of a terminal, played on a new one.
 //! - `terminal`: `Terminal` and its calls.
-//! - `updates`: `run`, which writes the updates of an input, one after each chunk of `every` bytes and one at the end.
+//! - `updates`: `run`, which writes the updates of an input, one after each chunk of `every` bytes and one at
+//!   the end.
 //! - `viewers`: laws of viewers, as the contracts of functions that do nothing.
 //! - `watched`: readers and writers whose failures are seen.
 //! - `worked`: worked examples: the bytes of updates and patches, and what a stream prints.

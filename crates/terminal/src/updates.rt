@@ -2,10 +2,10 @@
 ghost use Rattle.std.specs.Prelude.{◌≡◌, ◌↔◌, ◌<◌, ◌≤◌, ◌^◌, false, IsTrue, IsErr, IfOk, IfSome, OnOk, OnErr, IsErrOf};
 ghost use Rattle.std.specs.Prelude.{[], ◌∷◌};
 ghost use Rattle.std.specs.Io.KnownBytes.{Appends};
-ghost use Rattle.terminal.specs.Sent.{LooksNeedNumber, Sends, SendsAll, SendsChunks, SendsChunksOf, SendsFirst};
-ghost use Rattle.terminal.specs.Sent.{SendsPart, SendsSome, due_from, number_after, update_count};
+ghost use Rattle.terminal.specs.Written.{LooksNeedNumber, Sends, SendsAll, SendsChunks, SendsChunksOf, SendsFirst};
+ghost use Rattle.terminal.specs.Written.{SendsPart, SendsSome, due_from, number_after, update_count};
 ghost use Rattle.terminal.specs.Refusals.{NeedsNumber};
-ghost use Rattle.terminal.specs.Watched.{counted, counted_by};
+ghost use Rattle.terminal.specs.Watched.{IsUnread, counted, counted_by};
 ghost use Rattle.terminal_table.specs.History.{Look};
 ghost use Rattle.terminal_viewers.specs.Updates.{new_standing, updates};
 
@@ -71,8 +71,7 @@ fn write_updates<R: Read, T: Write, W: Widths + Drop>(
     every: usize,
 ) -> Result<(), RunError>
     requires every { 0 < every }
-    requires reader { reader.old.has_failed ≡ false }
-    requires unread { reader.old.reads ≡ 0 }
+    requires reader { IsUnread reader.old }
     requires writer { writer.old.has_failed ≡ false }
     requires sound { terminal.old.is_failed ≡ false }
     ensures ok { OnOk result
@@ -143,8 +142,7 @@ pub fn run<R: Read, T: Write, W: Widths + Drop>(
     requires width { (0 < width) × (width < 2 ^ 32) }
     requires height { (0 < height) × (height < 2 ^ 32) }
     requires every { 0 < every }
-    requires reader { reader.old.has_failed ≡ false }
-    requires unread { reader.old.reads ≡ 0 }
+    requires reader { IsUnread reader.old }
     requires writer { writer.old.has_failed ≡ false }
     ensures ok { OnOk result
         (IfSome (R.remaining reader.old.inner)

@@ -29,14 +29,14 @@ use crate::terminal::Terminal;
 use cell_base::Widths;
 use cell_surface::laws::{forgotten_changes_are_not_due, surfaces_stay_lawful};
 use escape_stream::encoding_laws::writable_lists_read_back;
+use terminal_render::encoding_laws::{spelled_changes_are_rendered, spelled_changes_are_writable};
 use terminal_render::laws::rendered_texts_have_the_effect;
 use terminal_render::sizes::{
     deltas_print_each_run_once, encoded_changes_are_short, encoded_lists_are_short,
 };
-use terminal_render::spelling_laws::{spelled_changes_are_rendered, spelled_changes_are_writable};
 pub use terminal_table::print_laws::plain_streams_print_what_is_fresh;
 use terminal_viewers::patch_laws::viewers_read_patches;
-use terminal_viewers::update_laws::{updates_are_counted, updates_have_spellings};
+use terminal_viewers::update_laws::{updates_are_counted, updates_have_encodings};
 use terminal_viewers::viewers::{
     updates_show_the_input, viewers_go_on_showing, viewers_read_updates,
 };
@@ -181,7 +181,7 @@ pub fn updates_are_small<W: Widths + Drop>(terminal: &Terminal<W>)
     terminal.stands();
     surfaces_stay_lawful(terminal.surface());
     updates_are_counted();
-    updates_have_spellings();
+    updates_have_encodings();
     spelled_changes_are_rendered();
     spelled_changes_are_writable();
     writable_lists_read_back();

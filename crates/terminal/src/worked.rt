@@ -12,7 +12,7 @@ ghost use Rattle.terminal_viewers.specs.Updates.{updates};
 
 /// Updates: of a blank screen, of a full row, of what follows it, and of two short rows. For a wrap that is pending the
 /// last cell is printed once more.
-pub fn sent_updates()
+pub fn encoded_updates()
     ensures blank { update_after 4 3 (Look ∷ []) 0 ≡ painted [] }
     ensures full { update_after 2 1 (shown (codes "ab")) 0
         ≡ painted (printed (codes "ab") ++ csi (codes "1;2H") ++ plain_pen ++ printed (codes "b") ++ plain_pen) }
@@ -23,7 +23,7 @@ pub fn sent_updates()
 {}
 
 /// Patches: of a letter between two that stay, and of one after which a wrap is pending, so that it is printed again.
-pub fn sent_patches()
+pub fn encoded_patches()
     ensures middle { patch_between 3 1 (shown (codes "abc")) (shown (codes "axc" ++ csi (codes "1;2H")))
         ≡ osc (codes "2;") ++ csi (codes "1;2H") ++ plain_pen ++ printed (codes "x")
         ++ csi (codes "1;2H") ++ plain_pen ++ csi (codes "?25h") }

@@ -1,4 +1,4 @@
--- Changes that have a spelling, and those of control functions.
+-- Changes that have an encoding, and those of control functions.
 use Rattle.std.proofs.Common.{◌≡◌, ◌≢◌, ℕ, ◌+◌, ◌-◌, ◌<◌, inl, inr, true, false, List, [], ◌∷◌, ◌++◌, map, refl, sym, ap, subst, arith}
 use Rattle.std.specs.Prelude.{⊤, ◌==◌, min, nat_le, Option, Some, None, option_map, if◌then◌else◌}
 use Rattle.std.specs.List.{AllByRecursion, flat_map}
@@ -24,7 +24,7 @@ use Rattle.terminal_render.specs.Pen.{colour_setting, rendition, link_action, at
 use Rattle.terminal_render.specs.Positions.{Way, At, Back, On, moves, way_of, position_moves}
 use Rattle.terminal_render.specs.Rendering.{edited, moved, is_whole, scroll_rendering, rendering}
 use Rattle.terminal_render.specs.Texts.{part_actions, text_rendering, title_rendering}
-use Rattle.terminal_render.specs.Spelling.{IsSpelledColor, IsSpelledPen, IsSpelledText, IsSpelledTitle, IsSpelledValue, IsSpelledChange, HasSpelling, HaveSpellings, IsLinePart, IsSpelledScreen, IsSpelledSaved, IsSpelledFunction}
+use Rattle.terminal_render.specs.Spelling.{IsSpelledColor, IsSpelledPen, IsSpelledText, IsSpelledTitle, IsSpelledValue, IsSpelledChange, HasEncoding, HaveEncodings, IsLinePart, IsSpelledScreen, IsSpelledSaved, IsSpelledFunction}
 use Rattle.terminal_render.proofs.DisplayLemmas.{AreSpelledChanges, plain_spelled}
 use Rattle.cell_base.specs.declared.color.ColorSpec.TheVariants as spec
 use Rattle.cell_base.specs.Color.{attribute_of}
@@ -109,19 +109,19 @@ change_of_code (ClearToEndOfScreen color) u = encoded_color color u
 change_of_code (Title title) u = u.utf8
 change_of_code _ u = tt
 
-pub has_spelling : (width height : ℕ) (change : ChangeValue) → IsSpelledChange change → IsPlaced width height change → IsLinePart change → HasSpelling width height change
-has_spelling width height change u g k = record { of_code = change_of_code change u; part = k; sent = change_some width height change u g }
+pub is_encoded : (width height : ℕ) (change : ChangeValue) → IsSpelledChange change → IsPlaced width height change → IsLinePart change → HasEncoding width height change
+is_encoded width height change u g k = record { of_code = change_of_code change u; part = k; sent = change_some width height change u g }
 
 abbrev pub AreLineParts : List ChangeValue → Type 0
 AreLineParts = AllByRecursion IsLinePart
 
-pub have_spellings : (width height : ℕ) (cs : List ChangeValue) → AreSpelledChanges cs → ArePlaced width height cs → AreLineParts cs → HaveSpellings width height cs
-have_spellings width height [] u g k = tt
-have_spellings width height (change ∷ cs) u g k = (has_spelling width height change u.0 g.0 k.0, have_spellings width height cs u.1 g.1 k.1)
+pub have_encodings : (width height : ℕ) (cs : List ChangeValue) → AreSpelledChanges cs → ArePlaced width height cs → AreLineParts cs → HaveEncodings width height cs
+have_encodings width height [] u g k = tt
+have_encodings width height (change ∷ cs) u g k = (is_encoded width height change u.0 g.0 k.0, have_encodings width height cs u.1 g.1 k.1)
 
-pub spellings_append : (width height : ℕ) (xs ys : List ChangeValue) → HaveSpellings width height xs → HaveSpellings width height ys → HaveSpellings width height (xs ++ ys)
-spellings_append width height [] ys p q = q
-spellings_append width height (x ∷ xs) ys p q = (p.0, spellings_append width height xs ys p.1 q)
+pub encodings_append : (width height : ℕ) (xs ys : List ChangeValue) → HaveEncodings width height xs → HaveEncodings width height ys → HaveEncodings width height (xs ++ ys)
+encodings_append width height [] ys p q = q
+encodings_append width height (x ∷ xs) ys p q = (p.0, encodings_append width height xs ys p.1 q)
 
 -- ---- positions that moves reach
 
@@ -205,7 +205,7 @@ changes_are_parts table.FullReset saved s = (tt, (tt, tt))
 changes_are_parts table.ReportStatus saved s = tt
 changes_are_parts table.ReportPosition saved s = tt
 
--- ---- and bring nothing that has no spelling
+-- ---- and bring nothing that has no encoding
 
 attribute_spelled : (color : ColorSpec) → IsColour color → IsSpelledColor (attribute_of color)
 attribute_spelled spec.Default h = tt

@@ -1,4 +1,4 @@
--- The cells, the pen and the title of displays have a spelling.
+-- The cells, the pen and the title of displays have an encoding.
 use Rattle.std.proofs.Common.{◌≡◌, ℕ, zero, suc, ◌+◌, ◌-◌, Bool, true, false, List, [], ◌∷◌, ◌++◌, length, get_or, take, drop, map, fold, replicate, refl}
 use Rattle.std.specs.Prelude.{All, None, ◌==◌, ◌&&◌, min, nat_lt, nat_le, if◌then◌else◌}
 use Rattle.std.specs.List.{AllByRecursion}

@@ -105,7 +105,7 @@ next_of_changes start bytes after changes i change width height before list belo
     (map_more value_of changes i change below ∙ ap (λ (c : Change). map value_of (take i changes) ++ value_of c ∷ []) (sym item))
     ∙ next_appended start bytes after (map value_of (take i changes)) (value_of change) width height before list e none stands appended
 
--- one without a spelling
+-- one without an encoding
 pub none_rendered : (changes : List Change) (i : ℕ) (change : Change) (width height : ℕ) → i < length changes → change ≡ get_or changes i change → rendering (value_of change) width height ≡ None
     → all_rendered (map value_of changes) width height ≡ None
 none_rendered [] i change width height below item none = absurd (omega (arith, below))

@@ -15,7 +15,7 @@ use Rattle.terminal_render.specs.Sizes.{RenderingsAreShort, TextsAreShort, RunsA
 use Rattle.terminal_render.proofs.ListLemmas.{parts}
 use Rattle.terminal_render.proofs.SizeLemmas.{after_short}
 use Rattle.terminal_render.specs.EncodedSizes.{AreShort, all_encoded_size, own_size, encoded_size}
-use Rattle.terminal_render.specs.Spelling.{HasSpelling, HaveSpellings, IsLinePart}
+use Rattle.terminal_render.specs.Spelling.{HasEncoding, HaveEncodings, IsLinePart}
 
 -- ---- joined lists: only a string terminator after the end of a string is left out
 
@@ -37,7 +37,7 @@ module _ (remaining : RenderingsAreShort) (texts : TextsAreShort) (runs : RunsAr
       cond_both (list_all (λ b. not (is_ascii_control b)) text) (length text + 1) (2 * length text) (λ most. length (stream_text actions) ≤ most) (λ t. runs text width height actions t e) (λ t. texts text width height actions e)
   change_short change width height actions k w wide h tall e = remaining change width height actions k w wide h tall refl e
 
-  pub lists_short : (width height : ℕ) (changes : List ChangeValue) (actions : List StreamAction) → 0 < width → width < 2 ^ 32 → 0 < height → height < 2 ^ 32 → HaveSpellings width height changes
+  pub lists_short : (width height : ℕ) (changes : List ChangeValue) (actions : List StreamAction) → 0 < width → width < 2 ^ 32 → 0 < height → height < 2 ^ 32 → HaveEncodings width height changes
       → all_rendered changes width height ≡ Some actions → length (stream_text actions) ≤ all_encoded_size changes
   lists_short width height [] actions w wide h tall s e = let none : [] ≡ actions = cc in subst (λ (xs : List StreamAction). length (stream_text xs) ≤ 0) none (omega arith)
   lists_short width height (change ∷ changes) actions w wide h tall s e =
@@ -47,9 +47,9 @@ module _ (remaining : RenderingsAreShort) (texts : TextsAreShort) (runs : RunsAr
 
   -- ---- each by itself
 
-  if_sent : (most : ℕ) (sent : Option (List StreamAction)) → ((actions : List StreamAction) → sent ≡ Some actions → length (stream_text actions) ≤ most) → IfSome sent (λ actions. length (stream_text actions) ≤ most)
-  if_sent most None h = tt
-  if_sent most (Some actions) h = h actions refl
+  if_encoded : (most : ℕ) (sent : Option (List StreamAction)) → ((actions : List StreamAction) → sent ≡ Some actions → length (stream_text actions) ≤ most) → IfSome sent (λ actions. length (stream_text actions) ≤ most)
+  if_encoded most None h = tt
+  if_encoded most (Some actions) h = h actions refl
 
   -- the end of a line has at most two bytes
   text_short : (text : List ℕ) (width height : ℕ) (actions : List StreamAction) → IsLinePart (Text text) → rendering (Text text) width height ≡ Some actions → length (stream_text actions) ≤ length text + 320
@@ -58,11 +58,11 @@ module _ (remaining : RenderingsAreShort) (texts : TextsAreShort) (runs : RunsAr
   text_short text width height actions (inr (inr (inl is))) e = omega (arith, texts text width height actions e, ap length is)
   text_short text width height actions (inr (inr (inr is))) e = omega (arith, texts text width height actions e, ap length is)
 
-  one_short : (change : ChangeValue) (width height : ℕ) (actions : List StreamAction) → 0 < width → width < 2 ^ 32 → 0 < height → height < 2 ^ 32 → HasSpelling width height change → rendering change width height ≡ Some actions → length (stream_text actions) ≤ own_size change + 320
+  one_short : (change : ChangeValue) (width height : ℕ) (actions : List StreamAction) → 0 < width → width < 2 ^ 32 → 0 < height → height < 2 ^ 32 → HasEncoding width height change → rendering change width height ≡ Some actions → length (stream_text actions) ≤ own_size change + 320
   one_short (Text text) width height actions w wide h tall s e = text_short text width height actions s.part e
   one_short change width height actions w wide h tall s e = remaining change width height actions s.of_code w wide h tall refl e
 
-  pub each_short : (width height : ℕ) (changes : List ChangeValue) → 0 < width → width < 2 ^ 32 → 0 < height → height < 2 ^ 32 → HaveSpellings width height changes → AreShort width height changes
+  pub each_short : (width height : ℕ) (changes : List ChangeValue) → 0 < width → width < 2 ^ 32 → 0 < height → height < 2 ^ 32 → HaveEncodings width height changes → AreShort width height changes
   each_short width height [] w wide h tall s = tt
   each_short width height (change ∷ changes) w wide h tall s =
-      (if_sent (own_size change + 320) (rendering change width height) (λ actions. one_short change width height actions w wide h tall s.0), each_short width height changes w wide h tall s.1)
+      (if_encoded (own_size change + 320) (rendering change width height) (λ actions. one_short change width height actions w wide h tall s.0), each_short width height changes w wide h tall s.1)

@@ -6,7 +6,7 @@ use Rattle.std.proofs.lemmas.Bool.{and_parts, and_from, false≢true, not-true}
 use Rattle.std.proofs.lemmas.Slice.Eq.{bytes_eq-Decides}
 use Rattle.cell_base.specs.declared.link_error.LinkError.{LinkError}
 use Rattle.cell_base.specs.Link.{Link, Param}
-use Rattle.cell_base.specs.LinkText.{link_text, link_reading, pieces, IsReadBack}
+use Rattle.cell_base.specs.LinkText.{link_text, link_reading, fields, IsReadBack}
 use Rattle.cell_base.proofs.LinkLaws.{back_is_given}
 use Rattle.terminal_render.specs.Links.{same_params, is_reading_of, reads_back}
 
@@ -49,7 +49,7 @@ is_reading link given =
     (and_from (same_params link.params link.params) (bytes_eq link.uri link.uri) (are_params link.params) (texts_same link.uri))
 
 pub reads_back_is : (link : Link) → reads_back link ≡ true → IsReadBack link
-reads_back_is link e = reading_is link (link_reading (pieces 59 (link_text link))) e
+reads_back_is link e = reading_is link (link_reading (fields 59 (link_text link))) e
 
 pub is_read_back : (link : Link) → IsReadBack link → reads_back link ≡ true
 is_read_back link back = ap (is_reading_of link) back ∙ is_reading link (back_is_given link back)

@@ -1,4 +1,4 @@
--- The changes that a log keeps have a spelling at the screen's present size.
+-- The changes that a log keeps have an encoding at the screen's present size.
 use Rattle.std.proofs.Common.{◌≢◌, ℕ, zero, suc, ◌-◌, List, [], ◌∷◌, ◌++◌, length, drop, fold, refl, sym, subst, ◌∙◌}
 use Rattle.std.specs.Prelude.{◌==◌, ◌||◌, nat_lt, None, IfSome, option_map}
 use Rattle.std.proofs.lemmas.Bool.{cond_both}
@@ -19,47 +19,47 @@ use Rattle.terminal_table.specs.Logged.{run_logged, event_logged, events_logged,
 use Rattle.terminal_table.specs.Turns.{IsView, AreSizes, AreEvents}
 use Rattle.terminal_table.proofs.EventLemmas.{event_is}
 use Rattle.terminal_table.proofs.PrintLemmas.{AllCut, events_are}
-use Rattle.terminal_render.specs.Spelling.{IsSpelledView, IsSpelledEvent, AreSpelledEvents, HasSpelling, HaveSpellings}
+use Rattle.terminal_render.specs.Spelling.{IsSpelledView, IsSpelledEvent, AreSpelledEvents, HasEncoding, HaveEncodings}
 use Rattle.terminal_render.proofs.SpelledPenLemmas.{map_some, then_some}
-use Rattle.terminal_render.proofs.ChangeLemmas.{spellings_append}
+use Rattle.terminal_render.proofs.ChangeLemmas.{encodings_append}
 use Rattle.terminal_render.proofs.StreamLemmas.{events_spelled}
-use Rattle.terminal_render.proofs.ViewLemmas.{HasSize, AreSent, settled_is, settled_size, step_size, moved_has, event_sent, event_spelled}
+use Rattle.terminal_render.proofs.ViewLemmas.{HasSize, AreEncoded, settled_is, settled_size, step_size, moved_has, event_encoded, event_spelled}
 
 -- ---- lists
 
-pub spellings_drop : (width tall n : ℕ) (xs : List ChangeValue) → HaveSpellings width tall xs → HaveSpellings width tall (drop n xs)
-spellings_drop width tall zero xs h = h
-spellings_drop width tall (suc n) [] h = tt
-spellings_drop width tall (suc n) (x ∷ xs) h = spellings_drop width tall n xs h.1
+pub encodings_drop : (width tall n : ℕ) (xs : List ChangeValue) → HaveEncodings width tall xs → HaveEncodings width tall (drop n xs)
+encodings_drop width tall zero xs h = h
+encodings_drop width tall (suc n) [] h = tt
+encodings_drop width tall (suc n) (x ∷ xs) h = encodings_drop width tall n xs h.1
 
 -- what is sent for them in turn
-pub all_some : (width tall : ℕ) (changes : List ChangeValue) → HaveSpellings width tall changes → all_rendered changes width tall ≢ None
+pub all_some : (width tall : ℕ) (changes : List ChangeValue) → HaveEncodings width tall changes → all_rendered changes width tall ≢ None
 all_some width tall [] h = λ e. cc
 all_some width tall (change ∷ changes) h =
     then_some (λ first. option_map (λ remaining. first ++ remaining) (all_rendered changes width tall)) (rendering change width tall) h.0.sent
     (λ first. map_some (λ remaining. first ++ remaining) (all_rendered changes width tall) (all_some width tall changes h.1))
 
-pub due_has : (width tall most : ℕ) (l : Log) (number : ℕ) → HaveSpellings width tall l.entries → IfSome (due most l number) (HaveSpellings width tall)
+pub due_has : (width tall most : ℕ) (l : Log) (number : ℕ) → HaveEncodings width tall l.entries → IfSome (due most l number) (HaveEncodings width tall)
 due_has width tall most l number h =
-    cond_both (number == 0 || nat_lt number (first_number l) || nat_lt l.number number || nat_lt most (l.number - number)) _ _ (λ found. IfSome found (HaveSpellings width tall)) (λ e. tt)
-    (λ e. spellings_drop width tall (number - first_number l) l.entries h)
+    cond_both (number == 0 || nat_lt number (first_number l) || nat_lt l.number number || nat_lt most (l.number - number)) _ _ (λ found. IfSome found (HaveEncodings width tall)) (λ e. tt)
+    (λ e. encodings_drop width tall (number - first_number l) l.entries h)
 
 -- ---- steps of a log
 
-kept_has : (width tall most : ℕ) (l : Log) (change : ChangeValue) → HasSpelling width tall change → HaveSpellings width tall l.entries → HaveSpellings width tall (kept most (logged change l)).entries
+kept_has : (width tall most : ℕ) (l : Log) (change : ChangeValue) → HasEncoding width tall change → HaveEncodings width tall l.entries → HaveEncodings width tall (kept most (logged change l)).entries
 kept_has width tall most l change h k =
-    spellings_drop width tall (length (l.entries ++ change ∷ []) - most) (l.entries ++ change ∷ []) (spellings_append width tall l.entries (change ∷ []) k (h, tt))
+    encodings_drop width tall (length (l.entries ++ change ∷ []) - most) (l.entries ++ change ∷ []) (encodings_append width tall l.entries (change ∷ []) k (h, tt))
 
-forgotten_has : (width tall number : ℕ) (l : Log) → HaveSpellings width tall l.entries → HaveSpellings width tall (forgotten number l).entries
+forgotten_has : (width tall number : ℕ) (l : Log) → HaveEncodings width tall l.entries → HaveEncodings width tall (forgotten number l).entries
 forgotten_has width tall number l h =
-    cond_both (nat_lt l.number number) _ _ (λ (x : Log). HaveSpellings width tall x.entries) (λ e. h) (λ e. spellings_drop width tall (number - first_number l) l.entries h)
+    cond_both (nat_lt l.number number) _ _ (λ (x : Log). HaveEncodings width tall x.entries) (λ e. h) (λ e. encodings_drop width tall (number - first_number l) l.entries h)
 
 -- another size empties it
-emptied : (width tall number : ℕ) (entries : List ChangeValue) → HaveSpellings width tall (resized_log (record { number = number; entries = entries })).entries
+emptied : (width tall number : ℕ) (entries : List ChangeValue) → HaveEncodings width tall (resized_log (record { number = number; entries = entries })).entries
 emptied width tall number [] = tt
 emptied width tall number (change ∷ changes) = tt
 
-steps_have : (width tall : ℕ) (steps : List LogStep) (s : Sized) → AreSent width tall steps → HaveSpellings width tall s.log.entries → HaveSpellings width tall (fold step_of_kept s steps).log.entries
+steps_have : (width tall : ℕ) (steps : List LogStep) (s : Sized) → AreEncoded width tall steps → HaveEncodings width tall s.log.entries → HaveEncodings width tall (fold step_of_kept s steps).log.entries
 steps_have width tall [] s h k = k
 steps_have width tall (Logged change ∷ steps) s h k = steps_have width tall steps (step_of_kept s (Logged change)) h.1 (kept_has width tall s.most s.log change h.0 k)
 steps_have width tall (Forgotten number ∷ steps) s h k = steps_have width tall steps (step_of_kept s (Forgotten number)) h.1 (forgotten_has width tall number s.log k)
@@ -68,11 +68,11 @@ steps_have width tall (log.Resized most ∷ steps) s h k = steps_have width tall
 -- ---- events
 
 abbrev KeepsSpelled : View → Sized → Type 0
-KeepsSpelled v s = HaveSpellings v.state.screen.width (height v.state.screen) s.log.entries
+KeepsSpelled v s = HaveEncodings v.state.screen.width (height v.state.screen) s.log.entries
 
 -- what is logged for an event leaves such a log, at the size of the screen before it
 logged_keeps : (width_of : List ℕ → ℕ) (v : View) (event : Event) (s : Sized) → IsView v → IsSpelledView v → IsSpelledEvent event → KeepsSpelled v s → KeepsSpelled v (fold step_of_kept s (event_logged width_of v event))
-logged_keeps width_of v event s h p q k = steps_have v.state.screen.width (height v.state.screen) (event_logged width_of v event) s (event_sent width_of v event h p q) k
+logged_keeps width_of v event s h p q k = steps_have v.state.screen.width (height v.state.screen) (event_logged width_of v event) s (event_encoded width_of v event h p q) k
 
 act_size : (width_of : List ℕ → ℕ) (v : View) (action : StreamAction) → IsView v → HasSize v.state.screen (event_done width_of v (Act action)).state.screen
 act_size width_of v action h =
@@ -100,6 +100,6 @@ all_keep width_of v (event ∷ es) s h l p q k =
     subst (λ (x : Sized). KeepsSpelled (fold (event_done width_of) next es) x) (sym (fold-append step_of_kept s (event_logged width_of v event) (events_logged width_of next es)))
     (all_keep width_of next es (fold step_of_kept s (event_logged width_of v event)) (event_is width_of v event h l.0) l.1 (event_spelled width_of v event h l.0 p q.0) q.1 (event_keeps width_of v event s h p q.0 k))
 
-pub history_keeps : AllCut → (width_of : List ℕ → ℕ) (v : View) (history : History) (s : Sized) → IsView v → AreSizes history → IsSpelledView v → HaveSpellings v.state.screen.width (height v.state.screen) s.log.entries
-    → HaveSpellings (after width_of v history).state.screen.width (height (after width_of v history).state.screen) (log_after width_of v s history).log.entries
+pub history_keeps : AllCut → (width_of : List ℕ → ℕ) (v : View) (history : History) (s : Sized) → IsView v → AreSizes history → IsSpelledView v → HaveEncodings v.state.screen.width (height v.state.screen) s.log.entries
+    → HaveEncodings (after width_of v history).state.screen.width (height (after width_of v history).state.screen) (log_after width_of v s history).log.entries
 history_keeps cut width_of v history s h l p k = all_keep width_of v (events v.stream history) s h (events_are cut v.stream history l) p (events_spelled cut v.stream history) k

@@ -1,4 +1,4 @@
--- Pens that have a spelling.
+-- Pens that have an encoding.
 use Rattle.std.proofs.Common.{◌≡◌, ◌≢◌, Bool, true, false, refl, sym, ap, subst}
 use Rattle.std.specs.Prelude.{◌↔◌, ◌||◌, not, Option, Some, None, option_map, option_and_then, if◌then◌else◌}
 use Rattle.std.proofs.lemmas.Bool.{or_parts}

@@ -1,4 +1,4 @@
--- What is sent for changes that have a spelling reads back from its bytes.
+-- What is sent for changes that have an encoding reads back from its bytes.
 use Rattle.std.proofs.Common.{◌≡◌, ℕ, ◌^◌, ◌<◌, List, [], ◌∷◌, sym, subst}
 use Rattle.std.specs.Prelude.{Some}
 use Rattle.screen_change.specs.ChangeValue.{ChangeValue}
@@ -8,10 +8,10 @@ use Rattle.terminal_render.specs.Carried.{RenderingsAreWritable}
 use Rattle.terminal_render.specs.Lists.{all_rendered, WritableListsJoin}
 use Rattle.terminal_render.specs.Rendering.{rendering}
 use Rattle.terminal_render.proofs.ListLemmas.{parts}
-use Rattle.terminal_render.specs.Spelling.{HaveSpellings}
+use Rattle.terminal_render.specs.Spelling.{HaveEncodings}
 
 pub spelled_writable : RenderingsAreWritable → WritableListsJoin → (width height : ℕ) (changes : List ChangeValue) (actions : List StreamAction) → 0 < width → width < 2 ^ 32 → 0 < height → height < 2 ^ 32
-    → HaveSpellings width height changes → all_rendered changes width height ≡ Some actions → IsWritable actions
+    → HaveEncodings width height changes → all_rendered changes width height ≡ Some actions → IsWritable actions
 spelled_writable writable join width height [] actions w wide h tall s e = let none : [] ≡ actions = cc in subst IsWritable none tt
 spelled_writable writable join width height (change ∷ changes) actions w wide h tall s e =
     let p = parts (rendering change width height) (all_rendered changes width height) actions e in

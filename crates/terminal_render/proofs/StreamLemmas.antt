@@ -1,10 +1,10 @@
--- What a stream prints, and what it asks for, has a spelling.
+-- What a stream prints, and what it asks for, has an encoding.
 use Rattle.std.proofs.Common.{ℕ, zero, suc, inr, Bool, true, false, List, [], ◌∷◌, ◌++◌, length, drop, map, fold, refl, arith}
 use Rattle.std.specs.Prelude.{⊤, ◌==◌, ◌||◌, Option, Some, None, filter, nat_lt, if◌then◌else◌}
 use Rattle.std.specs.Char.{IsScalar}
 use Rattle.std.specs.List.{AllByRecursion, flat_map}
 use Rattle.std.proofs.lemmas.Bool.{cond_both}
-use Rattle.cell_base.proofs.Pieces.{all_joined}
+use Rattle.cell_base.proofs.Fields.{all_joined}
 use Rattle.csi_codec.specs.Actions as codec
 use Rattle.csi_codec.specs.Actions.{csi_reading}
 use Rattle.csi_codec.specs.Escapes.{esc_reading}

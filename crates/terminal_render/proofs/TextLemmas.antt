@@ -14,7 +14,7 @@ use lib.Utf8.{scalar, scalars}
 use Rattle.unicode_segmentation.specs.Grapheme.{graphemes}
 use Rattle.cell_base.specs.Cluster.{clusters}
 use Rattle.cell_base.specs.Row.{space}
-use Rattle.cell_base.proofs.Pieces.{all_joined}
+use Rattle.cell_base.proofs.Fields.{all_joined}
 use Rattle.cell_base.proofs.PlainClusters.{clusters_are}
 use Rattle.escape_framing.specs.Segment.{IsPrintable}
 use Rattle.escape_framing.proofs.Existence.Utf8Lemmas.{Spelled, in_one, in_two, in_three, in_four, spelled, order}

@@ -1,4 +1,4 @@
--- Events leave views whose parts have a spelling, and so have the changes that are logged for them.
+-- Events leave views whose parts have an encoding, and so have the changes that are logged for them.
 use Rattle.std.proofs.Common.{◌≡◌, ℕ, inl, List, [], ◌∷◌, ◌++◌, length, map, replicate, refl, subst, ◌∙◌}
 use Rattle.std.specs.Prelude.{⊤, ◌==◌, Option, Some, None}
 use Rattle.std.specs.List.{AllByRecursion}
@@ -6,7 +6,7 @@ use Rattle.std.proofs.lemmas.Bool.{cond_both}
 use Rattle.std.proofs.lemmas.List.{length-replicate}
 use Rattle.cell_base.specs.declared.attributes.LineAttribute.TheVariants.{SingleWidthLine}
 use Rattle.cell_base.specs.Screen.{Screen, height}
-use Rattle.cell_base.proofs.Pieces.{all_joined}
+use Rattle.cell_base.proofs.Fields.{all_joined}
 use Rattle.screen_change.specs.ChangeValue.{ChangeValue, Text}
 use Rattle.screen_effects.proofs.SizeLemmas.{effect_size}
 use Rattle.screen_log.specs.LogSteps as log
@@ -28,10 +28,10 @@ use Rattle.terminal_table.specs.Turns.{IsPrinted, IsView, IsEvent, changes_in}
 use Rattle.terminal_table.proofs.TurnLemmas.{step_turns, action_turns}
 use Rattle.terminal_table.proofs.RunLemmas.{run_step_turns}
 use Rattle.terminal_table.proofs.EventLemmas.{event_is, event_turns}
-use Rattle.terminal_render.specs.Spelling.{IsSpelledText, IsSpelledScreen, IsSpelledSaved, IsSpelledState, IsSpelledView, IsSpelledRequest, IsSpelledEvent, HasSpelling, HaveSpellings}
+use Rattle.terminal_render.specs.Spelling.{IsSpelledText, IsSpelledScreen, IsSpelledSaved, IsSpelledState, IsSpelledView, IsSpelledRequest, IsSpelledEvent, HasEncoding, HaveEncodings}
 use Rattle.terminal_render.proofs.TextLemmas.{spelled_append, spelled_nil}
 use Rattle.terminal_render.proofs.DisplayLemmas.{effect_spelled, replay_spelled, size_spelled, screen_spelled}
-use Rattle.terminal_render.proofs.ChangeLemmas.{has_spelling, have_spellings, changes_are_parts, changes_spelled, changes_placed}
+use Rattle.terminal_render.proofs.ChangeLemmas.{is_encoded, have_encodings, changes_are_parts, changes_spelled, changes_placed}
 
 -- ---- steps and runs
 
@@ -115,54 +115,54 @@ step_size request state h =
     turned_size (λ text. 1) (changes_of request state) state.screen (step_of request state).screen d (action_turns (λ text. 1) request state (display_on state.screen) d refl).screen
 
 -- at another size of the same numbers
-pub moved_has : (s t : Screen) (changes : List ChangeValue) → HasSize s t → HaveSpellings s.width (height s) changes → HaveSpellings t.width (height t) changes
-moved_has s t changes size h = subst (λ n. HaveSpellings t.width n changes) size.tall (subst (λ n. HaveSpellings n (height s) changes) size.wide h)
+pub moved_has : (s t : Screen) (changes : List ChangeValue) → HasSize s t → HaveEncodings s.width (height s) changes → HaveEncodings t.width (height t) changes
+moved_has s t changes size h = subst (λ n. HaveEncodings t.width n changes) size.tall (subst (λ n. HaveEncodings n (height s) changes) size.wide h)
 
 -- ---- what is logged
 
--- a change that is logged has a spelling
-abbrev pub IsSent : ℕ → ℕ → LogStep → Type 0
-IsSent width tall (Logged change) = HasSpelling width tall change
-IsSent width tall (log.Forgotten number) = ⊤
-IsSent width tall (log.Resized most) = ⊤
+-- a change that is logged has an encoding
+abbrev pub IsEncoded : ℕ → ℕ → LogStep → Type 0
+IsEncoded width tall (Logged change) = HasEncoding width tall change
+IsEncoded width tall (log.Forgotten number) = ⊤
+IsEncoded width tall (log.Resized most) = ⊤
 
-abbrev pub AreSent : ℕ → ℕ → List LogStep → Type 0
-AreSent width tall = AllByRecursion (IsSent width tall)
+abbrev pub AreEncoded : ℕ → ℕ → List LogStep → Type 0
+AreEncoded width tall = AllByRecursion (IsEncoded width tall)
 
-logged_sent : (width tall : ℕ) (cs : List ChangeValue) → HaveSpellings width tall cs → AreSent width tall (map Logged cs)
-logged_sent width tall [] h = tt
-logged_sent width tall (c ∷ cs) h = (h.0, logged_sent width tall cs h.1)
+logged_encoded : (width tall : ℕ) (cs : List ChangeValue) → HaveEncodings width tall cs → AreEncoded width tall (map Logged cs)
+logged_encoded width tall [] h = tt
+logged_encoded width tall (c ∷ cs) h = (h.0, logged_encoded width tall cs h.1)
 
-sent_have : (width tall : ℕ) (steps : List LogStep) → AreSent width tall steps → HaveSpellings width tall (changes_in steps)
-sent_have width tall [] h = tt
-sent_have width tall (Logged change ∷ steps) h = (h.0, sent_have width tall steps h.1)
-sent_have width tall (log.Forgotten number ∷ steps) h = sent_have width tall steps h.1
-sent_have width tall (log.Resized most ∷ steps) h = sent_have width tall steps h.1
+encoded_have : (width tall : ℕ) (steps : List LogStep) → AreEncoded width tall steps → HaveEncodings width tall (changes_in steps)
+encoded_have width tall [] h = tt
+encoded_have width tall (Logged change ∷ steps) h = (h.0, encoded_have width tall steps h.1)
+encoded_have width tall (log.Forgotten number ∷ steps) h = encoded_have width tall steps h.1
+encoded_have width tall (log.Resized most ∷ steps) h = encoded_have width tall steps h.1
 
-run_sent : (width tall : ℕ) (v : View) → IsView v → IsSpelledView v → AreSent width tall (run_logged v)
-run_sent width tall v h p = cond_both (length v.held == 0) _ _ (AreSent width tall) (λ e. tt) (λ e. (has_spelling width tall (Text v.held) p.held tt (inl h.plain), tt))
+run_encoded : (width tall : ℕ) (v : View) → IsView v → IsSpelledView v → AreEncoded width tall (run_logged v)
+run_encoded width tall v h p = cond_both (length v.held == 0) _ _ (AreEncoded width tall) (λ e. tt) (λ e. (is_encoded width tall (Text v.held) p.held tt (inl h.plain), tt))
 
-pub request_has : (request : Option ControlFunction) (state : State) → IsState state → IsSpelledRequest request → IsSpelledState state → HaveSpellings state.screen.width (height state.screen) (changes_of request state)
+pub request_has : (request : Option ControlFunction) (state : State) → IsState state → IsSpelledRequest request → IsSpelledState state → HaveEncodings state.screen.width (height state.screen) (changes_of request state)
 request_has None state h f p = tt
 request_has (Some function) state h f p =
-    have_spellings state.screen.width (height state.screen) (changes function state.saved state.screen)
+    have_encodings state.screen.width (height state.screen) (changes function state.saved state.screen)
     (changes_spelled function state.saved state.screen f p.saved p.screen) (changes_placed function state.saved state.screen h.lawful.wide_enough) (changes_are_parts function state.saved state.screen)
 
 -- at the size of the screen before the event
-pub event_sent : (width_of : List ℕ → ℕ) (v : View) (event : Event) → IsView v → IsSpelledView v → IsSpelledEvent event → AreSent v.state.screen.width (height v.state.screen) (event_logged width_of v event)
-event_sent width_of v (Act action) h p q =
-    let sent = IsSent v.state.screen.width (height v.state.screen) in
+pub event_encoded : (width_of : List ℕ → ℕ) (v : View) (event : Event) → IsView v → IsSpelledView v → IsSpelledEvent event → AreEncoded v.state.screen.width (height v.state.screen) (event_logged width_of v event)
+event_encoded width_of v (Act action) h p q =
+    let sent = IsEncoded v.state.screen.width (height v.state.screen) in
     let own = settled width_of v in
     let changes = changes_of (function_of action) own.state in
     let has = request_has (function_of action) own.state (settled_is width_of v h).lawful q.1 (settled_spelled width_of v h p).state in
-    cond_both (is_print action) [] (run_logged v ++ map Logged changes) (AreSent v.state.screen.width (height v.state.screen)) (λ e. tt)
+    cond_both (is_print action) [] (run_logged v ++ map Logged changes) (AreEncoded v.state.screen.width (height v.state.screen)) (λ e. tt)
     (λ e.
-    all_joined sent (run_logged v) (map Logged changes) (run_sent v.state.screen.width (height v.state.screen) v h p)
-    (logged_sent v.state.screen.width (height v.state.screen) changes (moved_has own.state.screen v.state.screen changes (settled_size width_of v h) has)))
-event_sent width_of v Looked h p q = run_sent v.state.screen.width (height v.state.screen) v h p
-event_sent width_of v (Resized width tall) h p q =
-    all_joined (IsSent v.state.screen.width (height v.state.screen)) (run_logged v) (log.Resized (most_due width tall) ∷ []) (run_sent v.state.screen.width (height v.state.screen) v h p) (tt, tt)
-event_sent width_of v (Forgot number) h p q = (tt, tt)
+    all_joined sent (run_logged v) (map Logged changes) (run_encoded v.state.screen.width (height v.state.screen) v h p)
+    (logged_encoded v.state.screen.width (height v.state.screen) changes (moved_has own.state.screen v.state.screen changes (settled_size width_of v h) has)))
+event_encoded width_of v Looked h p q = run_encoded v.state.screen.width (height v.state.screen) v h p
+event_encoded width_of v (Resized width tall) h p q =
+    all_joined (IsEncoded v.state.screen.width (height v.state.screen)) (run_logged v) (log.Resized (most_due width tall) ∷ []) (run_encoded v.state.screen.width (height v.state.screen) v h p) (tt, tt)
+event_encoded width_of v (Forgot number) h p q = (tt, tt)
 
-pub event_has : (width_of : List ℕ → ℕ) (v : View) (event : Event) → IsView v → IsSpelledView v → IsSpelledEvent event → HaveSpellings v.state.screen.width (height v.state.screen) (changes_in (event_logged width_of v event))
-event_has width_of v event h p q = sent_have v.state.screen.width (height v.state.screen) (event_logged width_of v event) (event_sent width_of v event h p q)
+pub event_has : (width_of : List ℕ → ℕ) (v : View) (event : Event) → IsView v → IsSpelledView v → IsSpelledEvent event → HaveEncodings v.state.screen.width (height v.state.screen) (changes_in (event_logged width_of v event))
+event_has width_of v event h p q = encoded_have v.state.screen.width (height v.state.screen) (event_logged width_of v event) (event_encoded width_of v event h p q)

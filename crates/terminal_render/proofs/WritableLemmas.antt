@@ -24,10 +24,10 @@ use Rattle.cell_base.specs.Row.{space}
 use Rattle.screen_change.specs.ChangeValue.{ChangeValue, Attribute, AllAttributes, Text, ClearScreen, ClearToEndOfLine, ClearToEndOfScreen, CursorPosition, CursorColor, CursorShape, CursorVisibility, LineAttribute, ScrollRegionUp, ScrollRegionDown, Title}
 use Rattle.csi_codec.specs.Actions as codec
 use Rattle.csi_codec.specs.Actions.{spelling_of}
-use Rattle.csi_codec.specs.Fronts.{whole_front}
+use Rattle.csi_codec.specs.Prefixes.{whole_prefix}
 use Rattle.csi_codec.specs.Writable as codec_writable
 use Rattle.csi_codec.specs.Slots.{IsCoordinate}
-use Rattle.csi_codec.specs.Writable.{IsColour, IsWritableSgr, WritableActionsReadBack, WritableTextsAreFronts}
+use Rattle.csi_codec.specs.Writable.{IsColour, IsWritableSgr, WritableActionsReadBack, WritableTextsAreSequences}
 use Rattle.csi_codec.specs.declared.cursors.Cursor.{Cursor}
 use Rattle.csi_codec.specs.declared.cursors.Cursor.TheVariants as cursor
 use Rattle.csi_codec.specs.declared.edits.Edit.{Edit}
@@ -178,11 +178,11 @@ no_link : is_carried None ≡ true
 unfolding is_carried
 no_link = refl
 
-module _ (back : WritableActionsReadBack) (fronts : WritableTextsAreFronts) where
+module _ (back : WritableActionsReadBack) (prefixes : WritableTextsAreSequences) where
   -- ---- control sequences
 
   sequence : (a : codec.Action) → codec_writable.IsWritable a → IsReadBack a
-  sequence a w = record { prefix = whole_front (spelling_of a); stands = fronts a w; whole = refl; action = back false a w }
+  sequence a w = record { prefix = whole_prefix (spelling_of a); stands = prefixes a w; whole = refl; action = back false a w }
 
   -- ---- attributes
 

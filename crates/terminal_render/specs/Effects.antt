@@ -44,8 +44,8 @@ RenderingsHaveTheEffect =
 abbrev pub with_text : View → List ℕ → View
 with_text view text = record view { stream = view.stream ++ text }
 
--- and so have the bytes of the rendering, where they read back: a ready terminal with nothing unfinished that reads
--- them has the effect, and nothing is unfinished after them
+-- the bytes of the rendering have the effect, where they read back: a ready terminal with nothing unfinished that
+-- reads them has the effect, and nothing is unfinished after them
 abbrev pub RenderedTextsHaveTheEffect : Type 0
 RenderedTextsHaveTheEffect =
     (width_of : List ℕ → ℕ) (view : View) (display : Display) (change : ChangeValue) (actions : List StreamAction)

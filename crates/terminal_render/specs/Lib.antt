@@ -1,3 +1,4 @@
+pub mod ScreenSize
 pub mod Links
 pub mod Texts
 pub mod Pen

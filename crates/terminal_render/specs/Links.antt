@@ -6,7 +6,7 @@ use Rattle.std.specs.Char.{is_ascii_control}
 use Rattle.text_clusters.specs.Controls.{holds_c1}
 use Rattle.cell_base.specs.declared.link_error.LinkError.{LinkError}
 use Rattle.cell_base.specs.Link.{Link, Param}
-use Rattle.cell_base.specs.LinkText.{link_text, link_reading, pieces}
+use Rattle.cell_base.specs.LinkText.{link_text, link_reading, fields}
 
 -- no C0 control, no DEL, and no U+0080 to U+009F
 abbrev pub is_plain_text : List ℕ → Bool
@@ -28,7 +28,7 @@ is_reading_of link (Err error) = false
 
 -- whether the link's text reads back as it
 abbrev pub reads_back : Link → Bool
-reads_back link = is_reading_of link (link_reading (pieces 59 (link_text link)))
+reads_back link = is_reading_of link (link_reading (fields 59 (link_text link)))
 
 -- whether its URI, its keys and its values are plain texts
 abbrev pub is_plain_param : Param → Bool

@@ -33,7 +33,7 @@ ListsHaveTheEffect =
     → all_rendered changes view.state.screen.width (height view.state.screen) ≡ Some actions
     → actions_done width_of view actions ≡ with_changes width_of view display changes
 
--- and so have their bytes, where they read back
+-- the bytes of the renderings, where they read back, have the effects of the changes in turn
 abbrev pub ListTextsHaveTheEffect : Type 0
 ListTextsHaveTheEffect =
     (width_of : List ℕ → ℕ) (view : View) (display : Display) (changes : List ChangeValue) (actions : List StreamAction)

@@ -1,4 +1,4 @@
--- Bytes that are sent, for worked examples.
+-- Bytes that are bytes_for, for worked examples.
 use Rattle.std.specs.Prelude.{ℕ, List, [], ◌∷◌, ◌++◌, false, Option, option_map}
 use Rattle.cell_base.specs.Link.{Link}
 use Rattle.screen_change.specs.ChangeValue.{ChangeValue}
@@ -6,8 +6,8 @@ use Rattle.escape_stream.specs.StreamText.{stream_text}
 use Rattle.terminal_render.specs.Rendering.{rendering}
 
 -- the bytes of what is sent for a change to a terminal of a width and a height
-abbrev pub sent : ℕ → ℕ → ChangeValue → Option (List ℕ)
-sent width height change = option_map stream_text (rendering change width height)
+abbrev pub bytes_for : ℕ → ℕ → ChangeValue → Option (List ℕ)
+bytes_for width height change = option_map stream_text (rendering change width height)
 
 -- bytes after ESC [, and between ESC ] and ESC \
 abbrev pub csi : List ℕ → List ℕ

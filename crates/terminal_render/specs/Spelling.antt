@@ -1,4 +1,4 @@
--- What a terminal keeps so that each of its changes has a spelling.
+-- What a terminal keeps so that each of its changes has an encoding.
 use Rattle.std.specs.Prelude.{◌≡◌, ◌≢◌, ◌≤◌, ◌⊎◌, ⊤, ℕ, All, true, false, List, [], ◌∷◌, Option, Some, None}
 use Rattle.std.specs.Str.{IsUtf8}
 use Rattle.text_clusters.specs.Controls.{holds_c1}
@@ -138,23 +138,23 @@ IsLinePart _ = ⊤
 
 -- a change of the code (colours of bytes, texts in UTF-8), a line part if it is a text, that has a rendering for a
 -- terminal of a width and a height
-pub record HasSpelling (width height : ℕ) (change : ChangeValue) : Type 0 where
+pub record HasEncoding (width height : ℕ) (change : ChangeValue) : Type 0 where
   pub of_code : IsChange change
   pub part : IsLinePart change
   pub sent : rendering change width height ≢ None
 
-abbrev pub HaveSpellings : ℕ → ℕ → List ChangeValue → Type 0
-HaveSpellings width height [] = ⊤
-HaveSpellings width height (change ∷ changes) = HasSpelling width height change × HaveSpellings width height changes
+abbrev pub HaveEncodings : ℕ → ℕ → List ChangeValue → Type 0
+HaveEncodings width height [] = ⊤
+HaveEncodings width height (change ∷ changes) = HasEncoding width height change × HaveEncodings width height changes
 
--- the place of a wrap that is pending, or a shape of the cursor
+-- the position of a pending wrap, or a shape of the cursor
 abbrev pub IsLeftOut : Screen → ChangeValue → Type 0
 IsLeftOut screen change =
     ((screen.column ≡ screen.width) × (change ≡ CursorPosition (Absolute screen.column) (Absolute screen.row)))
     ⊎ ((shape : Shape) × (change ≡ CursorShape shape))
 
--- each of the other changes has a spelling at the screen's size
-abbrev pub HaveOtherSpellings : Screen → List ChangeValue → Type 0
-HaveOtherSpellings screen [] = ⊤
-HaveOtherSpellings screen (change ∷ changes) =
-    (HasSpelling screen.width (height screen) change ⊎ IsLeftOut screen change) × HaveOtherSpellings screen changes
+-- each of the other changes has an encoding at the screen's size
+abbrev pub HaveOtherEncodings : Screen → List ChangeValue → Type 0
+HaveOtherEncodings screen [] = ⊤
+HaveOtherEncodings screen (change ∷ changes) =
+    (HasEncoding screen.width (height screen) change ⊎ IsLeftOut screen change) × HaveOtherEncodings screen changes

@@ -1,4 +1,4 @@
-//! Lists of actions that are being made.
+//! `Actions`: the actions that encode changes, gathered one after another.
 ghost use Rattle.std.specs.Prelude.{◌≡◌, ◌++◌, ◌∷◌, [], length, map, take, IfOk, OnOk, option_map};
 ghost use Rattle.csi_codec.specs.Actions as codec;
 ghost use Rattle.escape_osc.specs.Command.{set_window_title};

@@ -1,4 +1,4 @@
-//! Actions that are sent for a change, lent from it.
+//! Actions that encode a change, borrowed from it.
 ghost use Rattle.std.specs.Prelude.{◌≡◌, ◌++◌, Some, length, take, IfOk, OnOk, option_map};
 ghost use Rattle.escape_osc.specs.Command.{set_hyperlink, set_window_title};
 ghost use Rattle.escape_osc.specs.CommandView.{command_of};

@@ -1,4 +1,4 @@
-//! Positions as they are sent.
+//! Lines and columns as control sequences count them, from 1.
 ghost use Rattle.std.specs.Prelude.{◌≡◌, ◌≤◌};
 
 /// A line or a column, counted from 1.

@@ -1,10 +1,11 @@
-//! Encodings: the actions of a change for which something can be sent. Nothing here asks whether it can.
+//! The encoding of a change that has one: its actions, or their bytes. Nothing here asks whether it has one.
 ghost use Rattle.std.specs.Prelude.{◌≡◌, ◌≢◌, ◌==◌, ◌<◌, ◌^◌, ◌++◌, ◌∷◌, [], length};
 ghost use Rattle.std.specs.Prelude.{map, min, take, if◌then◌else◌, OnErr, OnOk, None, Some, option_map};
 ghost use Rattle.screen_change.specs.ValueOf.{value_of as change_value};
 ghost use Rattle.escape_stream.specs.StreamText.{stream_text};
 ghost use Rattle.terminal_render.specs.Lists.{all_rendered};
 ghost use Rattle.terminal_render.specs.Rendering.{appended, edited, rendering, visibility_mode};
+ghost use Rattle.terminal_render.specs.ScreenSize.{IsScreenSize};
 
 use crate::actions::Actions;
 use crate::pen::{push_attribute, push_clear, push_clear_screen, push_pen};
@@ -55,10 +56,7 @@ pub(crate) fn push_change<'a>(
     width: usize,
     height: usize,
 ) -> Result<(), AllocError>
-    requires columns { 0 < width }
-    requires width { width < 2 ^ 32 }
-    requires rows { 0 < height }
-    requires height { height < 2 ^ 32 }
+    requires size { IsScreenSize width height }
     requires encoded { rendering (change_value change.now) width height ≢ None }
     ensures { OnOk result (appended actions.old (rendering (change_value change.now) width height) ≡ Some actions.new) }
 {
@@ -102,10 +100,7 @@ pub fn append_encodings(
     height: usize,
     bytes: &mut Vec<u8>,
 ) -> Result<(), AllocError>
-    requires columns { 0 < width }
-    requires width { width < 2 ^ 32 }
-    requires rows { 0 < height }
-    requires height { height < 2 ^ 32 }
+    requires size { IsScreenSize width height }
     requires encoded { all_rendered (map change_value changes.now) width height ≢ None }
     ensures ok { OnOk result (option_map (λ actions. bytes.old.items ++ stream_text actions)
         (all_rendered (map change_value changes.now) width height) ≡ Some bytes.new.items) }
@@ -127,10 +122,7 @@ fn append_each(
     height: usize,
     bytes: &mut Vec<u8>,
 ) -> Result<(), AllocError>
-    requires columns { 0 < width }
-    requires width { width < 2 ^ 32 }
-    requires rows { 0 < height }
-    requires height { height < 2 ^ 32 }
+    requires size { IsScreenSize width height }
     requires encoded { all_rendered (map change_value changes.now) width height ≢ None }
     ensures ok { OnOk result (option_map (λ actions. bytes.old.items ++ stream_text actions)
         (all_rendered (map change_value changes.now) width height) ≡ Some bytes.new.items) }

@@ -1,4 +1,5 @@
-//! Laws of what is sent: each is the contract of a function that does nothing but name the laws below.
+//! Laws of encodings: they have the change's effect and read back, and how long they are. Each is the contract of a
+//! function that does nothing but name the laws below.
 ghost use Rattle.terminal_render.specs.Carried.{RenderingsAreWritable};
 ghost use Rattle.terminal_render.specs.Lists.{ListTextsHaveTheEffect, ListTextsLeaveIdle, ListsHaveTheEffect};
 ghost use Rattle.terminal_render.specs.Lists.{RenderingsJoin, WritableListsJoin};

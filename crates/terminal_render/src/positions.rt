@@ -6,6 +6,7 @@ ghost use Rattle.csi_codec.specs.declared.cursors.Cursor.TheVariants as cursor;
 ghost use Rattle.terminal_render.specs.Positions.{At, On, move_by, moves, position_moves, way_of};
 ghost use Rattle.terminal_render.specs.PositionsView.{IsCounted, both_listed, listed, move_cursor, way_value};
 ghost use Rattle.terminal_render.specs.Rendering.{appended, moved};
+ghost use Rattle.terminal_render.specs.ScreenSize.{IsScreenSize};
 
 use crate::actions::Actions;
 use crate::coordinate::Coordinate;
@@ -151,10 +152,7 @@ fn position_moves(
     x: Position,
     y: Position,
 ) -> (Option<Move>, Option<Move>)
-    requires columns { 0 < width }
-    requires width { width < 2 ^ 32 }
-    requires rows { 0 < height }
-    requires height { height < 2 ^ 32 }
+    requires size { IsScreenSize width height }
     requires encoded { position_moves width height x y ≢ None }
     ensures { position_moves width height x y ≡ Some (both_listed result) }
 {
@@ -177,10 +175,7 @@ pub(crate) fn push_position(
     x: Position,
     y: Position,
 ) -> Result<(), AllocError>
-    requires columns { 0 < width }
-    requires width { width < 2 ^ 32 }
-    requires rows { 0 < height }
-    requires height { height < 2 ^ 32 }
+    requires size { IsScreenSize width height }
     requires encoded { position_moves width height x y ≢ None }
     ensures { OnOk result (appended actions.old (option_map (map moved) (position_moves width height x y))
         ≡ Some actions.new) }

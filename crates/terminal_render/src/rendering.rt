@@ -1,10 +1,11 @@
-//! What is sent for a change, if anything can be.
+//! `render`: the encoding of a change, if it has one.
 ghost use Rattle.std.specs.Prelude.{◌≡◌, ◌↔◌, ◌<◌, ◌^◌, ◌&&◌, map, is_some, None, Some, IfOk, IsErrOf, IsTrue};
 ghost use Rattle.screen_change.specs.ValueOf.{value_of as change_value};
 ghost use Rattle.escape_stream.specs.StreamActionView.{value_of};
 ghost use Rattle.escape_stream.specs.StreamWritable.{IsWritable};
 ghost use Rattle.terminal_render.specs.Carried.{IsChange};
 ghost use Rattle.terminal_render.specs.Rendering.{is_whole, rendering};
+ghost use Rattle.terminal_render.specs.ScreenSize.{IsScreenSize};
 
 use crate::actions::Actions;
 use crate::encoding::push_change;
@@ -73,10 +74,7 @@ pub fn render(
     width: usize,
     height: usize,
 ) -> Result<Vec<Action>, RenderError>
-    requires columns { 0 < width }
-    requires width { width < 2 ^ 32 }
-    requires rows { 0 < height }
-    requires height { height < 2 ^ 32 }
+    requires size { IsScreenSize width height }
     ensures some { IfOk result
         (λ actions. rendering (change_value change.now) width height ≡ Some (map value_of actions.items)) }
     ensures none { IsErrOf result RenderError.NoSpelling ↔ (rendering (change_value change.now) width height ≡ None) }

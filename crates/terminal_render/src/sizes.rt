@@ -1,20 +1,20 @@
-//! Laws of how much is sent: each is the contract of a function that does nothing.
+//! Laws of how many bytes encode changes at most. Each is the contract of a function that does nothing.
 ghost use Rattle.std.specs.Prelude.{◌≡◌, ◌<◌, ◌≤◌, ◌^◌, ℕ, List, Some, length};
 ghost use Rattle.screen_change.specs.ChangeValue.{ChangeValue};
 ghost use Rattle.escape_stream.specs.StreamAction.{StreamAction};
 ghost use Rattle.escape_stream.specs.StreamText.{stream_text};
 ghost use Rattle.terminal_render.specs.Lists.{all_rendered};
 ghost use Rattle.terminal_render.specs.EncodedSizes.{AreShort, all_encoded_size, prints_in, runs_in};
-ghost use Rattle.terminal_render.specs.Spelling.{HaveSpellings};
+ghost use Rattle.terminal_render.specs.Spelling.{HaveEncodings};
 
 use crate::laws::renderings_are_short;
 
-/// What is sent for changes that have a spelling is no longer than what is sent for each at most: 320 bytes
+/// What is sent for changes that have an encoding is no longer than what is sent for each at most: 320 bytes
 /// beside a title or a link, for a text twice its bytes, and one more than it has where it holds no C0
 /// control or DEL.
 pub fn encoded_lists_are_short()
     ensures { (width : ℕ) (height : ℕ) (changes : List ChangeValue) (actions : List StreamAction) → 0 < width
-        → width < 2 ^ 32 → 0 < height → height < 2 ^ 32 → HaveSpellings width height changes
+        → width < 2 ^ 32 → 0 < height → height < 2 ^ 32 → HaveEncodings width height changes
         → all_rendered changes width height ≡ Some actions → length (stream_text actions) ≤ all_encoded_size changes }
 {
     renderings_are_short();
@@ -23,7 +23,7 @@ pub fn encoded_lists_are_short()
 /// And no more than 320 bytes are sent for each, beside its text, its title, or its link's parameters and URI.
 pub fn encoded_changes_are_short()
     ensures { (width : ℕ) (height : ℕ) (changes : List ChangeValue) → 0 < width → width < 2 ^ 32 → 0 < height
-        → height < 2 ^ 32 → HaveSpellings width height changes → AreShort width height changes }
+        → height < 2 ^ 32 → HaveEncodings width height changes → AreShort width height changes }
 {
     renderings_are_short();
 }

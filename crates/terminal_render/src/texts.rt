@@ -1,4 +1,4 @@
-//! Texts.
+//! Texts, cut at their controls.
 ghost use Rattle.std.specs.Prelude.{◌≡◌, ◌++◌, OnOk};
 ghost use Rattle.std.specs.List.{flat_map};
 ghost use Rattle.screen_effects.specs.Parts.{plain_part};

@@ -1,11 +1,14 @@
 -- Why actions are refused memory.
-use Rattle.std.proofs.Common.{◌≡◌, ℕ, ◌<◌, Bool, true, false, List, [], ◌∷◌, ◌++◌, length, map, fold, inl, inr, refl, sym, ap, subst, ◌∙◌, arith}
+use Rattle.std.proofs.Common.{◌≡◌, ℕ, ◌<◌, ◌^◌, Bool, true, false, List, [], ◌∷◌, ◌++◌, length, map, fold, inl, inr, refl, sym, ap, subst, ◌∙◌, arith}
 use Rattle.std.specs.Prelude.{◌==◌, ◌⊎◌, Option, if◌then◌else◌}
 use Rattle.std.specs.List.{AllByRecursion}
+use Rattle.std.proofs.lemmas.List.{map-append}
 use Rattle.cell_surface.specs.declared.error.SurfaceError.{SurfaceError}
 use Rattle.cell_surface.specs.declared.error.SurfaceError.TheVariants as refusal
 use Rattle.screen_log.specs.LogSteps.{LogStep, Logged, Sized, step_of_kept}
-use Rattle.escape_stream.specs.Items.{Item, Text, Single}
+use Rattle.escape_stream.specs.Items.{Item, Text, Single, item_of, items, items_of}
+use Rattle.escape_stream.specs.Pieces.{Piece}
+use Rattle.escape_stream.specs.PiecesView.{BytesTakeMemory, PerformsUpToMemory, TakesMemoryBefore}
 use Rattle.escape_stream.specs.Performing.{StopsAt, HaltsAt}
 use Rattle.escape_stream.specs.StreamAction.{StreamAction, is_print, printed}
 use Rattle.escape_stream.specs.declared.perform.Halted.{Halted}
@@ -20,10 +23,11 @@ use Rattle.terminal_table.specs.Turns.{AreEvents}
 use Rattle.terminal_steps.specs.Events.{view_of, IsReady}
 use Rattle.terminal_steps.specs.Memory.{TakesMemory, TakesOwnMemory, number_settled}
 use Rattle.terminal_steps.specs.Refusals.{of_halted}
-use Rattle.terminal_steps.specs.Items.{AsksNothing, item_event, item_events, DoesItem, RefusesItem, SomeNeedsMemory}
+use Rattle.terminal_steps.specs.Items.{AsksNothing, item_event, item_events, DoesItem, RefusesItem, SomeNeedsMemory, ParserNeedsMemory}
 use Rattle.terminal_steps.specs.declared.error.TerminalError.TheVariants.{Memory}
 use Rattle.terminal_steps.specs.declared.state.TerminalState.{TerminalState}
 use Rattle.terminal_steps.proofs.NumberLemmas.{stopped_had}
+use Rattle.terminal_steps.proofs.TakeLemmas.{are_prefix, leads}
 
 -- ---- what an action logs
 
@@ -58,6 +62,14 @@ quiet_items f v log items failed none all some =
     let rest = quiet_rest f v some.done (some.item ∷ some.left) (subst (AllByRecursion AsksNothing) some.whole all) none in
     quiet_item f (fold (event_done f) v (item_events some.done)) (fold step_of_kept log (events_logged f v (item_events some.done))) some.item failed rest.1.0 rest.0 some.takes
 
+-- where the parser is refused memory, the bytes take some
+pub bytes_take : (f : List ℕ → ℕ) (view : View) (log : Sized) (stream bytes : List ℕ) → ParserNeedsMemory f view log stream bytes → BytesTakeMemory stream bytes
+bytes_take f view log stream bytes n = by_case n.takes
+  where
+    by_case : TakesMemoryBefore stream bytes n.left → BytesTakeMemory stream bytes
+    by_case (inl (k, within, body, left)) = inl (k, within, body)
+    by_case (inr first) = inr (record { done = n.done; left = n.left; whole = n.whole; takes = first })
+
 module _ {W : Type 0} (width_of : W → List ℕ → ℕ) where
   abbrev of : TerminalState W → List ℕ → ℕ
   of t = width_of t.surface.grid.widths
@@ -73,14 +85,31 @@ module _ {W : Type 0} (width_of : W → List ℕ → ℕ) where
         item = s.item;
         left = s.left;
         whole = s.whole;
+        fits = subst (λ (l : Sized). l.log.number < 2 ^ 64) had.log had.ready.fits;
         takes = subst (λ (T : Type 0). T) (λ i. TakesMemory (width_of (had.widths i)) (had.view i) (had.log i) (item_event s.item) last.surface.is_failed) (s.refused had.ready);
       }
 
-  pub halted_memory : (P : Type 0) (t last : TerminalState W) (items : List Item) (h : Halted SurfaceError) → of_halted h ≡ Memory → (h ≡ halted.Memory → P)
-      → HaltsAt (DoesItem width_of) (RefusesItem width_of) t items h last → IsReady t → AreEvents (item_events items)
-      → P ⊎ SomeNeedsMemory (of t) (view_of t) t.surface.log items last.surface.is_failed
-  halted_memory P t last items halted.Failed e m s ready events = cc
-  halted_memory P t last items halted.Memory e m s ready events = inl (m refl)
-  halted_memory P t last items (halted.Refused refusal.Failed) e m s ready events = cc
-  halted_memory P t last items (halted.Refused refusal.Number) e m s ready events = cc
-  halted_memory P t last items (halted.Refused refusal.Memory) e m s ready events = inr (stopped_memory t last items s ready events)
+  -- the parser is refused some
+  early_memory : (t last : TerminalState W) (stream bytes : List ℕ) → PerformsUpToMemory (DoesItem width_of) t stream bytes last
+      → IsReady t → AreEvents (item_events (items stream bytes)) → ParserNeedsMemory (of t) (view_of t) t.surface.log stream bytes
+  early_memory t last stream bytes p ready events =
+      let all : item_events (items stream bytes) ≡ item_events (items_of p.done) ++ item_events (items_of p.left)
+      = ap (λ (ps : List Piece). item_events (items_of ps)) p.whole ∙ ap item_events (map-append item_of p.done p.left) ∙ map-append item_event (items_of p.done) (items_of p.left) in
+      let had = leads width_of t last (items_of p.done) p.performed ready (are_prefix (item_events (items_of p.done)) (item_events (items_of p.left)) (subst AreEvents all events)) in
+      record {
+        done = p.done;
+        left = p.left;
+        whole = p.whole;
+        fits = subst (λ (l : Sized). l.log.number < 2 ^ 64) had.log had.ready.fits;
+        takes = p.takes;
+      }
+
+  pub halted_memory : (t last : TerminalState W) (stream bytes : List ℕ) (h : Halted SurfaceError) → of_halted h ≡ Memory
+      → (h ≡ halted.Memory → PerformsUpToMemory (DoesItem width_of) t stream bytes last)
+      → HaltsAt (DoesItem width_of) (RefusesItem width_of) t (items stream bytes) h last → IsReady t → AreEvents (item_events (items stream bytes))
+      → ParserNeedsMemory (of t) (view_of t) t.surface.log stream bytes ⊎ SomeNeedsMemory (of t) (view_of t) t.surface.log (items stream bytes) last.surface.is_failed
+  halted_memory t last stream bytes halted.Failed e m s ready events = cc
+  halted_memory t last stream bytes halted.Memory e m s ready events = inl (early_memory t last stream bytes (m refl) ready events)
+  halted_memory t last stream bytes (halted.Refused refusal.Failed) e m s ready events = cc
+  halted_memory t last stream bytes (halted.Refused refusal.Number) e m s ready events = cc
+  halted_memory t last stream bytes (halted.Refused refusal.Memory) e m s ready events = inr (stopped_memory t last (items stream bytes) s ready events)

@@ -1,5 +1,5 @@
 -- Numbers never fall, so what is refused a number leads past the last one.
-use Rattle.std.proofs.Common.{◌≡◌, ℕ, ◌<◌, ◌≤◌, ◌^◌, Bool, true, false, List, [], ◌∷◌, ◌++◌, fold, refl, sym, ap, subst, ◌∙◌, arith}
+use Rattle.std.proofs.Common.{◌≡◌, ◌≢◌, ℕ, ◌<◌, ◌≤◌, ◌-◌, ◌^◌, Bool, true, false, List, [], ◌∷◌, ◌++◌, fold, refl, sym, ap, subst, ◌∙◌, arith}
 use Rattle.std.specs.Prelude.{nat_lt}
 use Rattle.std.specs.String.{string_bytes}
 use Rattle.std.specs.List.{FoldsTo}
@@ -72,12 +72,20 @@ module _ {W : Type 0} (width_of : W → List ℕ → ℕ) where
 
   -- ---- other sizes
 
+  resized_fits : (s t : Surface W) (width height : ℕ) → Resizes width height s t → s.is_failed ≡ false → ((s.is_failed ≡ false) × (s.log.log.number ≡ 2 ^ 64 - 1) × (s.log.log.entries ≢ []) → ⊥)
+      → s.log.log.number < 2 ^ 64 → t.log.log.number < 2 ^ 64
+  resized_fits s t width height a stays numbers fits = subst (λ (l : Sized). l.log.number < 2 ^ 64) (sym a.log) (by_entries s.log.log.entries refl)
+    where
+      by_entries : (cs : List ChangeValue) → s.log.log.entries ≡ cs → (resized_log s.log.log).number < 2 ^ 64
+      by_entries [] e = rw e fits
+      by_entries (c ∷ cs) e = rw e (let some : s.log.log.entries ≢ [] = λ none. cc in let last : s.log.log.number ≢ 2 ^ 64 - 1 = λ n. numbers (stays, n, some) in omega (arith, fits, last))
+
   pub resized_had : (t u : TerminalState W) (s : Surface W) (r : TerminalState W) (width height : ℕ) → 0 < width → 0 < height
       → r.surface ≡ s → string_bytes r.held ≡ string_bytes u.held → r.saved ≡ u.saved → r.replies.items ≡ u.replies.items
       → Had width_of t u (Looked ∷ [])
-      → Resizes width height u.surface s
+      → Resizes width height u.surface s → ((u.surface.is_failed ≡ false) × (u.surface.log.log.number ≡ 2 ^ 64 - 1) × (u.surface.log.log.entries ≢ []) → ⊥)
       → Had width_of t r (Resized width height ∷ [])
-  resized_had t u s r width height w k e n v q h a = record {
+  resized_had t u s r width height w k e n v q h a numbers = record {
     view = (λ i. record { state = states i; stream = []; held = n i }) ∙ ap {B = View} (λ (x : View). record x { state = with_size width height x.state }) h.view;
     log = ap (λ x. x.log) e ∙ a.log ∙ ap (λ l. step_of_kept l (log.Resized (most_due width height))) h.log ∙ sym (resized_after t width height);
     widths = ap (λ x. x.grid.widths) e ∙ a.widths ∙ h.widths;
@@ -85,6 +93,7 @@ module _ {W : Type 0} (width_of : W → List ℕ → ℕ) where
     ready = record {
       stays = ap (λ x. x.is_failed) e ∙ a.stays;
       shown = subst (λ x. IsDisplay (shown_by x)) (sym e) (subst IsDisplay (sym a.shown) (resized_is width height (shown_by u.surface) w k h.ready.shown));
+      fits = subst (λ (x : Surface W). x.log.log.number < 2 ^ 64) (sym e) (resized_fits u.surface s width height a h.ready.stays numbers h.ready.fits);
       plain = subst IsPrinted (sym n) h.ready.plain;
     };
   }

@@ -1,5 +1,5 @@
 -- What ends a run, and what an action does after it.
-use Rattle.std.proofs.Common.{◌≡◌, ℕ, Bool, false, List, [], ◌∷◌, ◌++◌, length, map, fold, refl, sym, ap, subst, ◌∙◌}
+use Rattle.std.proofs.Common.{◌≡◌, ℕ, ◌<◌, ◌^◌, Bool, false, List, [], ◌∷◌, ◌++◌, length, map, fold, refl, sym, ap, subst, ◌∙◌}
 use Rattle.std.specs.Prelude.{◌==◌, Option, if◌then◌else◌}
 use Rattle.std.specs.String.{string_bytes}
 use Rattle.std.proofs.lemmas.List.Sums.{fold-append}
@@ -31,8 +31,8 @@ module _ {W : Type 0} (width_of : W → List ℕ → ℕ) where
   -- the run was added as a change, and nothing is held after it
   pub settled_had : (t r : TerminalState W) (s : Surface W) → (length (string_bytes t.held) == 0) ≡ false
       → r.surface ≡ s → string_bytes r.held ≡ [] → r.saved ≡ t.saved → r.replies.items ≡ t.replies.items
-      → AddsAll width_of t.surface s (run_change (string_bytes t.held) ∷ []) → IsReady t → Had width_of t r (Looked ∷ [])
-  settled_had t r s e k n v q a h = record {
+      → AddsAll width_of t.surface s (run_change (string_bytes t.held) ∷ []) → s.log.log.number < 2 ^ 64 → IsReady t → Had width_of t r (Looked ∷ [])
+  settled_had t r s e k n v q a f h = record {
     view = (λ i. record { state = states i; stream = []; held = n i }) ∙ sym (ap ended e);
     log = ap (λ x. x.log) k ∙ a.log ∙ sym (ap (λ b. fold step_of_kept t.surface.log (logged b)) e);
     widths = ap (λ x. x.grid.widths) k ∙ a.widths;
@@ -40,6 +40,7 @@ module _ {W : Type 0} (width_of : W → List ℕ → ℕ) where
     ready = record {
       stays = ap (λ x. x.is_failed) k ∙ a.stays;
       shown = subst (λ x. IsDisplay (shown_by x)) (sym k) (subst IsDisplay (sym a.shown) (effect_is (of t) (shown_by t.surface) (run_change text) h.shown));
+      fits = subst (λ (x : Surface W). x.log.log.number < 2 ^ 64) (sym k) f;
       plain = subst IsPrinted (sym n) refl;
     };
   }
@@ -65,9 +66,9 @@ module _ {W : Type 0} (width_of : W → List ℕ → ℕ) where
       → Had width_of t u (Looked ∷ [])
       → AddsAll width_of u.surface s (changes_of (function_of action) (view_of u).state)
       → r.saved ≡ (step_of (function_of action) (view_of u).state).saved
-      → r.replies.items ≡ (step_of (function_of action) (view_of u).state).replies
+      → r.replies.items ≡ (step_of (function_of action) (view_of u).state).replies → s.log.log.number < 2 ^ 64
       → Had width_of t r (Act action ∷ [])
-  act_had t u s action r p e k h a v q = record {
+  act_had t u s action r p e k h a v q f = record {
     view = (λ i. record { state = states i; stream = []; held = k i }) ∙ ap {B = View} (λ (x : View). record x { state = step_of function x.state }) h.view ∙ sym (ap done p);
     log = ap (λ x. x.log) e ∙ a.log ∙ ap (λ l. fold step_of_kept l (map Logged changes)) h.log
         ∙ sym (fold-append step_of_kept t.surface.log (run_logged (view_of t) ++ []) (map Logged changes))
@@ -77,6 +78,7 @@ module _ {W : Type 0} (width_of : W → List ℕ → ℕ) where
     ready = record {
       stays = ap (λ x. x.is_failed) e ∙ a.stays;
       shown = subst (λ x. IsDisplay (shown_by x)) (sym e) (subst IsDisplay (sym a.shown) (replay_is (of u) changes (shown_by u.surface) h.ready.shown));
+      fits = subst (λ (x : Surface W). x.log.log.number < 2 ^ 64) (sym e) f;
       plain = subst IsPrinted (sym k) h.ready.plain;
     };
   }

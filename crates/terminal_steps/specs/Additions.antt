@@ -25,7 +25,8 @@ pub record AddsWith {W : Type 0}
   pub added : IfOk result (λ _. AddsAll width_of before after changes)
   pub failed : IsErrOf result Failed → before.is_failed ≡ true
   pub numbers : IsErrOf result Number → (0 < length changes) × (2 ^ 64 ≤ number_of before + length changes)
-  pub memory : IsErrOf result Memory → takes_more ≡ false → IsChangeRefused changes after.is_failed
+  pub memory : IsErrOf result Memory → takes_more ≡ false → IsChangeRefused changes (number_of before) after.is_failed
+  pub fits : IfOk result (λ _. number_of before < 2 ^ 64 → number_of after < 2 ^ 64)
 
 -- it takes theirs alone
 abbrev pub Adds : {W : Type 0} → (W → List ℕ → ℕ) → Surface W → List ChangeValue → Result ⊤ SurfaceError → Surface W

@@ -1,5 +1,5 @@
 -- What events make of what a terminal keeps.
-use Rattle.std.specs.Prelude.{◌≡◌, ◌≤◌, ◌^◌, ℕ, false, List, [], fold}
+use Rattle.std.specs.Prelude.{◌≡◌, ◌≤◌, ◌<◌, ◌^◌, ℕ, false, List, [], fold}
 use Rattle.std.specs.String.{string_bytes}
 use Rattle.cell_surface.specs.Surface.{Surface, shown_by}
 use Rattle.screen_log.specs.LogSteps.{Sized, step_of_kept}
@@ -19,10 +19,11 @@ view_of t = record { state = state_of t.surface t.saved t.replies.items; stream 
 abbrev pub surface_in : {W : Type 0} → TerminalState W → Surface W
 surface_in t = t.surface
 
--- the surface hasn't failed, and shows a lawful display; no control is held
+-- the surface hasn't failed, shows a lawful display, and its number is one of 64 bits; no control is held
 pub record IsReady {W : Type 0} (t : TerminalState W) : Type 0 where
   pub stays : t.surface.is_failed ≡ false
   pub shown : IsDisplay (shown_by t.surface)
+  pub fits : t.surface.log.log.number < 2 ^ 64
   pub plain : IsPrinted (string_bytes t.held)
 
 -- the log that events leave
@@ -39,7 +40,7 @@ pub record Had {W : Type 0} (width_of : W → List ℕ → ℕ) (before after : 
     pub shape : (shown_by after.surface).shape ≡ (shown_by before.surface).shape
     pub ready : IsReady after
 
--- so it is where it was ready for them
+-- a terminal that was ready for events has had them
 abbrev pub Does : {W : Type 0} → (W → List ℕ → ℕ) → TerminalState W → TerminalState W → List Event → Type 0
 Does width_of before after events = IsReady before → AreEvents events → Had width_of before after events
 

@@ -1,9 +1,11 @@
 -- What a parser hands out as events, and what they make of what a terminal keeps.
-use Rattle.std.specs.Prelude.{◌≡◌, ℕ, Bool, false, List, [], ◌∷◌, ◌++◌, None, map, fold}
+use Rattle.std.specs.Prelude.{◌≡◌, ◌<◌, ◌^◌, ℕ, Bool, false, List, [], ◌∷◌, ◌++◌, None, map, fold}
 use Rattle.cell_surface.specs.declared.error.SurfaceError.{SurfaceError}
 use Rattle.cell_surface.specs.declared.error.SurfaceError.TheVariants as refusal
 use Rattle.screen_log.specs.LogSteps.{Sized, step_of_kept}
-use Rattle.escape_stream.specs.Items.{Item, Text, Single}
+use Rattle.escape_stream.specs.Items.{Item, Text, Single, items_of}
+use Rattle.escape_stream.specs.Pieces.{Piece, pieces}
+use Rattle.escape_stream.specs.PiecesView.{TakesMemoryBefore}
 use Rattle.escape_stream.specs.StreamAction.{is_print, print_string}
 use Rattle.terminal_table.specs.Functions.{function_of}
 use Rattle.terminal_table.specs.History.{Event, Act}
@@ -38,15 +40,28 @@ abbrev pub Leads : {W : Type 0} → (W → List ℕ → ℕ) → TerminalState W
 Leads width_of before after items =
     IsReady before → AreEvents (item_events items) → Had width_of before after (item_events items)
 
--- Of some items one is refused memory, after those before it.
+-- the log after items
+abbrev pub log_after_items : (List ℕ → ℕ) → View → Sized → List Item → Sized
+log_after_items width_of view log items = fold step_of_kept log (events_logged width_of view (item_events items))
+
+-- Of some items one is refused memory, after those before it, for which there were numbers.
 pub record SomeNeedsMemory
     (width_of : List ℕ → ℕ) (view : View) (log : Sized) (items : List Item) (failed : Bool) : Type 0 where
   pub done : List Item
   pub item : Item
   pub left : List Item
   pub whole : items ≡ done ++ (item ∷ left)
+  pub fits : (log_after_items width_of view log done).log.number < 2 ^ 64
   pub takes : TakesMemory width_of (fold (event_done width_of) view (item_events done))
-      (fold step_of_kept log (events_logged width_of view (item_events done))) (item_event item) failed
+      (log_after_items width_of view log done) (item_event item) failed
+
+-- The parser is refused memory for bytes after a stream, after some of their pieces, for which there were numbers.
+pub record ParserNeedsMemory (width_of : List ℕ → ℕ) (view : View) (log : Sized) (stream bytes : List ℕ) : Type 0 where
+  pub done : List Piece
+  pub left : List Piece
+  pub whole : pieces stream bytes ≡ done ++ left
+  pub fits : (log_after_items width_of view log (items_of done)).log.number < 2 ^ 64
+  pub takes : TakesMemoryBefore stream bytes left
 
 -- an item asks for nothing: an action that prints nothing and has no control function
 abbrev pub AsksNothing : Item → Type 0

@@ -42,15 +42,15 @@ keeps ReportPosition = true
 keeps _ = false
 
 -- Beside its changes an action takes memory for what its control function copies, where its first change has a number
--- after this one, or for what that keeps.
+-- after this one, or for what that keeps, where this is a number.
 abbrev pub TakesOwnMemory : Option ControlFunction → ℕ → Type 0
 TakesOwnMemory None number = ⊥
 TakesOwnMemory (Some function) number =
-    ((copies function ≡ true) × (number + 1 < 2 ^ 64)) ⊎ (keeps function ≡ true)
+    ((copies function ≡ true) × (number + 1 < 2 ^ 64)) ⊎ ((keeps function ≡ true) × (number < 2 ^ 64))
 
--- a change is refused memory: there is one, and the surface has failed
-abbrev pub IsChangeRefused : {A : Type 0} → List A → Bool → Type 0
-IsChangeRefused changes failed = (0 < length changes) × (failed ≡ true)
+-- after a number a change is refused memory: there is one, the first one has a number, and the surface has failed
+abbrev pub IsChangeRefused : {A : Type 0} → List A → ℕ → Bool → Type 0
+IsChangeRefused changes number failed = (0 < length changes) × (number + 1 < 2 ^ 64) × (failed ≡ true)
 
 -- the number after the run that is held, once it has ended
 abbrev pub number_settled : View → Sized → ℕ
@@ -61,10 +61,10 @@ number_settled view log = (fold step_of_kept log (run_logged view)).log.number
 abbrev pub TakesMemory : (List ℕ → ℕ) → View → Sized → Event → Bool → Type 0
 TakesMemory width_of view log (Act action) failed =
     (is_print action ≡ true) ⊎ TakesOwnMemory (function_of action) (number_settled view log)
-    ⊎ IsChangeRefused (event_logged width_of view (Act action)) failed
-TakesMemory width_of view log event failed = IsChangeRefused (event_logged width_of view event) failed
+    ⊎ IsChangeRefused (event_logged width_of view (Act action)) log.log.number failed
+TakesMemory width_of view log event failed = IsChangeRefused (event_logged width_of view event) log.log.number failed
 
--- so it is with a terminal that was ready for it
+-- a terminal that was ready for an event takes memory for it
 abbrev pub NeedsMemory : {W : Type 0} → (W → List ℕ → ℕ) → TerminalState W → Event → TerminalState W → Type 0
 NeedsMemory width_of before event after =
     IsReady before

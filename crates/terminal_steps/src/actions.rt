@@ -111,7 +111,7 @@ fn perform<W: Widths + Drop>(
 ///
 /// Refuses as the surface does, and for want of memory for a copy, a saved cursor or a reply; it refuses a change that
 /// has no number before it copies its text or its pen. A refusal leaves the changes done so far.
-pub fn apply<W: Widths + Drop>(
+pub(crate) fn apply<W: Widths + Drop>(
     surface: &mut Surface<W>,
     saved: &mut Option<SavedCursor>,
     replies: &mut Vec<u8>,
@@ -132,11 +132,12 @@ pub fn apply<W: Widths + Drop>(
         ≤ number_of surface.old
         + length
         (changes_of (function_of (value_of action)) (state_of surface.old saved.old replies.old.items)) }
-    ensures memory { IsErrOf result SurfaceError.Memory
+    ensures memory { IsErrOf result SurfaceError.Memory → number_of surface.old < 2 ^ 64
         → TakesOwnMemory (function_of (value_of action)) (number_of surface.old)
         ⊎ IsChangeRefused
         (changes_of (function_of (value_of action)) (state_of surface.old saved.old replies.old.items))
-        surface.new.is_failed }
+        (number_of surface.old) surface.new.is_failed }
+    ensures fits { OnOk result (number_of surface.old < 2 ^ 64 → number_of surface.new < 2 ^ 64) }
 {
     if surface.is_failed() {
         return Err(SurfaceError::Failed);
@@ -152,12 +153,17 @@ pub fn apply<W: Widths + Drop>(
 
 /// A run of printed characters: one change, which puts each of their clusters at the cursor. Refuses as the surface
 /// does.
-pub fn print<W: Widths + Drop>(surface: &mut Surface<W>, text: String) -> Result<(), SurfaceError>
+pub(crate) fn print<W: Widths + Drop>(
+    surface: &mut Surface<W>,
+    text: String,
+) -> Result<(), SurfaceError>
     ensures added { IfOk result
         (λ _. AddsAll (λ w. W.width_of w) surface.old surface.new (run_change (string_bytes text) ∷ [])) }
     ensures failed { IsErrOf result SurfaceError.Failed ↔ (surface.old.is_failed ≡ true) }
     ensures numbers { IsErrOf result SurfaceError.Number → 2 ^ 64 ≤ number_of surface.old + 1 }
     ensures memory { IsErrOf result SurfaceError.Memory → surface.new.is_failed ≡ true }
+    ensures numbered { IsErrOf result SurfaceError.Memory → number_of surface.old + 1 < 2 ^ 64 }
+    ensures fits { OnOk result (number_of surface.old < 2 ^ 64 → number_of surface.new < 2 ^ 64) }
 {
     if surface.is_failed() {
         return Err(SurfaceError::Failed);

@@ -16,6 +16,7 @@ use csi_codec::{
 use escape_osc::OperatingSystemCommand;
 use escape_stream::{Action, ControlCode};
 
+// Of a control character: BS, HT, LF, VT, FF and CR.
 fn of_control(code: ControlCode) -> Option<ControlFunction>
     ensures { table_functions result ≡ control_function (control_number code) }
 {
@@ -30,6 +31,7 @@ fn of_control(code: ControlCode) -> Option<ControlFunction>
     }
 }
 
+// Of an ESC pair: IND, NEL, RI, RIS, DECSC and DECRC.
 fn of_escape(code: EscCode) -> Option<ControlFunction>
     ensures { table_functions result ≡ escape_function code }
 {
@@ -44,6 +46,8 @@ fn of_escape(code: EscCode) -> Option<ControlFunction>
     }
 }
 
+// Of a cursor sequence: CUU, CUD, CUB, CUF, VPB, VPR, HPB, HPR, CNL, CPL, CHA, HPA, VPA, CUP, HVP, SCOSC, SCORC and
+// DSR 6.
 fn of_cursor(cursor: Cursor) -> Option<ControlFunction>
     ensures { table_functions result ≡ cursor_function cursor }
 {
@@ -69,6 +73,7 @@ fn of_cursor(cursor: Cursor) -> Option<ControlFunction>
     Some(ControlFunction::Moves(movement))
 }
 
+// Of an edit: ED 0, ED 2, EL 0, EL 2, SU and SD.
 fn of_edit(edit: Edit) -> Option<ControlFunction>
     ensures { table_functions result ≡ edit_function edit }
 {
@@ -85,6 +90,7 @@ fn of_edit(edit: Edit) -> Option<ControlFunction>
     }
 }
 
+// Of a mode: DECTCEM, set and reset.
 fn of_mode(mode: Mode) -> Option<ControlFunction>
     ensures { table_functions result ≡ mode_function mode }
 {
@@ -99,6 +105,7 @@ fn of_mode(mode: Mode) -> Option<ControlFunction>
     }
 }
 
+// Of a CSI sequence: SGR except fonts, DSR 5, and those above.
 fn of_sequence(sequence: CSI) -> Option<ControlFunction>
     ensures { table_functions result ≡ sequence_function (action_of sequence) }
 {
@@ -116,6 +123,7 @@ fn of_sequence(sequence: CSI) -> Option<ControlFunction>
     }
 }
 
+// Of an operating system command: OSC 0, OSC 2 and OSC 8.
 fn of_command(command: OperatingSystemCommand) -> Option<ControlFunction>
     ensures { table_functions result ≡ command_function (command_of command) }
 {

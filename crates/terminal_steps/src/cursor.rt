@@ -1,5 +1,5 @@
-//! What sets the cursor's place and the pen, and what erases to the end of a row: changes with types of their own, each
-//! of which a surface adds by code of its own.
+//! The changes that set the cursor's position and the pen, and the one that erases to the end of a row. Each has a
+//! type, so that a surface adds it without a test of its kind.
 ghost use Rattle.std.specs.Prelude.{◌≡◌};
 
 use cell_base::{CellAttributes, ColorAttribute, Position};
@@ -27,14 +27,14 @@ impl From<CellPosition> for Change {
     }
 }
 
-/// Attributes that the pen gets, all of them.
+/// All attributes of a pen.
 #[derive(Drop)]
 pub(crate) struct Pen {
     pub(crate) attributes: CellAttributes,
 }
 
 impl Pen {
-    /// The colour after the text.
+    /// The pen's background.
     pub(crate) fn background(&self) -> ColorAttribute
         ensures { result ≡ self.now.attributes.background }
     {

@@ -1,4 +1,4 @@
-//! Moves of the cursor.
+//! Moves of the cursor: where CUU, CUD, CUB, CUF, CNL, CPL, CHA, VPA, CUP and HT lead.
 ghost use Rattle.std.specs.Prelude.{◌≡◌, None, min};
 ghost use Rattle.cell_surface.specs.Surface.{shown_by};
 ghost use Rattle.terminal_table.specs.Changes.{changes, move_change, position};

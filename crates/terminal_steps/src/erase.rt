@@ -1,4 +1,4 @@
-//! Erasures, scrolls and the line before.
+//! Erasures (ED, EL), scrolls (SU, SD) and the reverse index (RI).
 ghost use Rattle.std.specs.Prelude.{◌≡◌, None, IfOk, [], ◌∷◌};
 ghost use Rattle.screen_change.specs.ValueOf.{value_of};
 ghost use Rattle.cell_surface.specs.Surface.{shown_by};
@@ -25,7 +25,7 @@ fn current_pen<W: Widths + Drop>(surface: &Surface<W>) -> Result<Pen, AllocError
     })
 }
 
-/// The columns from the cursor to the end of its row become blanks.
+/// EL 0 (CSI K): the columns from the cursor to the end of its row become blanks.
 pub(crate) fn erase_to_end_of_line<W: Widths + Drop>(
     surface: &mut Surface<W>,
 ) -> Result<(), SurfaceError>
@@ -38,7 +38,7 @@ pub(crate) fn erase_to_end_of_line<W: Widths + Drop>(
     Ok(())
 }
 
-/// The columns from the cursor to the end of its row, and all rows below, become blanks.
+/// ED 0 (CSI J): the columns from the cursor to the end of its row, and all rows below, become blanks.
 pub(crate) fn erase_to_end_of_display<W: Widths + Drop>(
     surface: &mut Surface<W>,
 ) -> Result<(), SurfaceError>
@@ -59,7 +59,7 @@ fn same_position<W: Widths + Drop>(surface: &Surface<W>) -> CellPosition
     position_at(surface, current_column(surface), row)
 }
 
-/// The whole screen becomes blanks.
+/// ED 2 (CSI 2 J): the whole screen becomes blanks.
 pub(crate) fn erase_display<W: Widths + Drop>(surface: &mut Surface<W>) -> Result<(), SurfaceError>
     ensures { CopiesAndAdds (λ w. W.width_of w) surface.old
         (changes table.EraseDisplay None (shown_by surface.old).screen) result surface.new }
@@ -71,7 +71,7 @@ pub(crate) fn erase_display<W: Widths + Drop>(surface: &mut Surface<W>) -> Resul
     Ok(())
 }
 
-/// The cursor's row becomes blanks.
+/// EL 2 (CSI 2 K): the cursor's row becomes blanks.
 pub(crate) fn erase_line<W: Widths + Drop>(surface: &mut Surface<W>) -> Result<(), SurfaceError>
     ensures { CopiesAndAdds (λ w. W.width_of w) surface.old
         (changes table.EraseLine None (shown_by surface.old).screen) result surface.new }
@@ -86,7 +86,7 @@ pub(crate) fn erase_line<W: Widths + Drop>(surface: &mut Surface<W>) -> Result<(
     Ok(())
 }
 
-/// All rows move up, as far as there are rows.
+/// SU (CSI S): all rows move up, as far as there are rows.
 pub(crate) fn scroll_up<W: Widths + Drop>(
     surface: &mut Surface<W>,
     count: u32,
@@ -106,7 +106,7 @@ pub(crate) fn scroll_up<W: Widths + Drop>(
     )
 }
 
-/// All rows move down, as far as there are rows.
+/// SD (CSI T): all rows move down, as far as there are rows.
 pub(crate) fn scroll_down<W: Widths + Drop>(
     surface: &mut Surface<W>,
     count: u32,
@@ -126,7 +126,7 @@ pub(crate) fn scroll_down<W: Widths + Drop>(
     )
 }
 
-// The row before; on the first one all rows move down.
+// The change of RI: the cursor moves to the row above; at the first row all rows move down by one.
 fn reverse_change<W: Widths + Drop>(surface: &Surface<W>) -> Change
     ensures { value_of result ∷ [] ≡ changes table.ReverseIndex None (shown_by surface.now).screen }
 {
@@ -143,7 +143,7 @@ fn reverse_change<W: Widths + Drop>(surface: &Surface<W>) -> Change
     }
 }
 
-/// The row before; on the first one all rows move down.
+/// RI (ESC M): the cursor moves to the row above; at the first row all rows move down by one.
 pub(crate) fn reverse_index<W: Widths + Drop>(surface: &mut Surface<W>) -> Result<(), SurfaceError>
     ensures { Adds (λ w. W.width_of w) surface.old
         (changes table.ReverseIndex None (shown_by surface.old).screen) result surface.new }

@@ -1,4 +1,4 @@
-//! Laws: each is the contract of a function that does nothing but name the laws below.
+//! The law that the texts and actions of a call have the meaning of its bytes.
 ghost use Rattle.std.specs.Prelude.{◌≡◌, ℕ, List, [], ◌∷◌, fold};
 ghost use Rattle.escape_stream.specs.Items.{items};
 ghost use Rattle.terminal_table.specs.History.{Piece};
@@ -7,7 +7,7 @@ ghost use Rattle.terminal_table.specs.Meaning.{View, after, event_done};
 ghost use Rattle.terminal_table.specs.Turns.{AreEvents};
 ghost use Rattle.terminal_steps.specs.Items.{item_events};
 
-use escape_framing::laws::{one_cut, pieces_join};
+use escape_framing::laws::{chunks_join, one_cut};
 use escape_stream::action_laws::pieces_are_actions;
 
 /// The texts and actions of a call have the meaning that the table gives the bytes of the call after a stream, and
@@ -25,6 +25,6 @@ pub fn pieces_have_the_meaning_of_bytes()
     ensures events { (stream : List ℕ) (bytes : List ℕ) → AreEvents (item_events (items stream bytes)) }
 {
     one_cut();
-    pieces_join();
+    chunks_join();
     pieces_are_actions();
 }

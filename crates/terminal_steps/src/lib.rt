@@ -1,5 +1,23 @@
-//! What a terminal does with each action: it reads which control function the action asks for, and adds
-//! the changes of the terminal's table to a surface.
+//! What a terminal does with each action: it reads which control function the action asks for, and adds the changes of
+//! the terminal's table to a surface. `TerminalState` is for the crate `terminal` alone: users call its `Terminal`,
+//! which answers with this crate's `TerminalError`.
+//!
+//! - `actions`: what a terminal does with an action, and with a run of printed characters.
+//! - `changes`: changes that are added to a surface, one after another.
+//! - `control_functions`: which control function an action asks for.
+//! - `cursor`: the changes that set the cursor's position and the pen, and the one that erases to the end of a
+//!   row.
+//! - `cursor_moves`: moves of the cursor: where CUU, CUD, CUB, CUF, CNL, CPL, CHA, VPA, CUP and HT lead.
+//! - `erase`: erasures (ED, EL), scrolls (SU, SD) and the reverse index (RI).
+//! - `error`: why a call of a terminal was refused.
+//! - `function`: the control functions of a terminal, with their mnemonics.
+//! - `laws`: the law that the texts and actions of a call have the meaning of its bytes.
+//! - `pen`: SGR: what it does to the pen.
+//! - `replies`: replies to the application, which asks for them by DSR.
+//! - `saved`: saved cursors (DECSC, DECRC, SCOSC, SCORC) and the full reset (RIS).
+//! - `state`: what a terminal keeps beside its parser, and what events make of it.
+//! - `text_runs`: runs of text, and the performer that the parser calls: a text joins the held run, and other
+//!   actions end it.
 #![tactic(auto)]
 
 mod actions;
@@ -17,7 +35,6 @@ mod saved;
 mod state;
 mod text_runs;
 
-pub use actions::{apply, print};
 pub use error::TerminalError;
 pub use saved::SavedCursor;
 pub use state::TerminalState;

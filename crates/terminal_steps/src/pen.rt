@@ -1,4 +1,4 @@
-//! What SGR does to the pen.
+//! SGR: what it does to the pen.
 ghost use Rattle.std.specs.Prelude.{◌≡◌, None, IfOk};
 ghost use Rattle.cell_surface.specs.Surface.{shown_by};
 ghost use Rattle.csi_codec.specs.declared.rendition.Sgr.TheVariants as sgr;

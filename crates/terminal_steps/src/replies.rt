@@ -1,4 +1,4 @@
-//! Replies to the application.
+//! Replies to the application, which asks for them by DSR.
 ghost use Rattle.std.specs.Prelude.{◌≡◌, ◌++◌, ◌+◌, IfOk, decimal, OnOk};
 ghost use Rattle.cell_surface.specs.Surface.{shown_by};
 ghost use Rattle.terminal_table.specs.Steps.{position_reply, status_reply};
@@ -8,14 +8,14 @@ use cell_base::Widths;
 use cell_surface::Surface;
 use std::alloc::AllocError;
 
-/// The terminal is ready.
+/// The reply to DSR 5 (CSI 5 n): CSI 0 n, the terminal is ready.
 pub(crate) fn report_status(replies: &mut Vec<u8>) -> Result<(), AllocError>
     ensures { OnOk result (replies.new.items ≡ replies.old.items ++ status_reply) }
 {
     replies.extend_from_slice(b"\x1b[0n")
 }
 
-/// The cursor's line and column, counted from 1.
+/// The reply to DSR 6 (CSI 6 n): CPR (CSI R), the cursor's line and column, counted from 1.
 pub(crate) fn report_position<W: Widths + Drop>(
     surface: &Surface<W>,
     replies: &mut Vec<u8>,

@@ -1,4 +1,4 @@
-//! Cursors that were saved.
+//! Saved cursors (DECSC, DECRC, SCOSC, SCORC) and the full reset (RIS).
 ghost use Rattle.std.specs.Prelude.{◌≡◌, [], Some, None, IfOk};
 ghost use Rattle.cell_surface.specs.Surface.{shown_by};
 ghost use Rattle.terminal_table.specs.Changes.{changes};
@@ -44,7 +44,7 @@ fn cursor_of<W: Widths + Drop>(surface: &Surface<W>) -> Result<SavedCursor, Allo
     Ok(SavedCursor { column, row, pen })
 }
 
-/// The cursor is saved, which adds no change.
+/// DECSC (ESC 7), SCOSC (CSI s): saves the cursor, which adds no change.
 pub(crate) fn save_cursor<W: Widths + Drop>(
     surface: &mut Surface<W>,
     saved: &mut Option<SavedCursor>,
@@ -76,7 +76,7 @@ fn cursor_to_restore(saved: &Option<SavedCursor>) -> Result<SavedCursor, AllocEr
     }
 }
 
-/// The cursor goes back to where it was saved, with its pen.
+/// DECRC (ESC 8), SCORC (CSI u): the cursor goes back to where it was saved, with its pen.
 pub(crate) fn restore_cursor<W: Widths + Drop>(
     surface: &mut Surface<W>,
     saved: &Option<SavedCursor>,
@@ -89,7 +89,7 @@ pub(crate) fn restore_cursor<W: Widths + Drop>(
     add_cursor(surface, destination, Pen { attributes: pen })
 }
 
-/// A full reset, which leaves the title alone, and forgets the saved cursor.
+/// RIS (ESC c): a full reset, which leaves the title alone and drops the saved cursor.
 pub(crate) fn full_reset<W: Widths + Drop>(
     surface: &mut Surface<W>,
     saved: &mut Option<SavedCursor>,

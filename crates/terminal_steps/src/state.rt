@@ -1,8 +1,8 @@
 //! What a terminal keeps beside its parser, and what events make of it.
-ghost use Rattle.std.specs.Prelude.{◌≡◌, ◌<◌, ◌^◌, true, false, IsOk, IfOk, OnOk, IsErrOf, None, [], ◌∷◌};
+ghost use Rattle.std.specs.Prelude.{◌≡◌, ◌<◌, ◌+◌, ◌^◌, true, false, IsOk, IfOk, OnOk, IsErrOf, None, [], ◌∷◌};
 ghost use Rattle.escape_stream.specs.StreamAction.{is_print};
 ghost use Rattle.escape_stream.specs.StreamActionView.{value_of};
-ghost use Rattle.cell_surface.specs.Surface.{shown_by};
+ghost use Rattle.cell_surface.specs.Surface.{number_of, shown_by};
 ghost use Rattle.screen_log.specs.Log.{new_log};
 ghost use Rattle.terminal_table.specs.Meaning.{new_view};
 ghost use Rattle.terminal_table.specs.History.{Act, Forgot, Looked, Resized};
@@ -86,6 +86,7 @@ impl<W: Widths + Drop> TerminalState<W> {
         ensures failed { IsErrOf result SurfaceError.Failed → IsReady self.old → ⊥ }
         ensures numbers { IsErrOf result SurfaceError.Number → NeedsNumber (λ w. W.width_of w) self.old (Looked ∷ []) }
         ensures memory { IsErrOf result SurfaceError.Memory → (surface_in self.new).is_failed ≡ true }
+        ensures numbered { IsErrOf result SurfaceError.Memory → number_of (surface_in self.old) + 1 < 2 ^ 64 }
         ensures nothing { (view_of self.old).held ≡ [] → IsOk result }
     {
         if self.held.is_empty() {

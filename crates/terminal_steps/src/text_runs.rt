@@ -1,4 +1,4 @@
-//! What a terminal does with what a parser reads.
+//! Runs of text, and the performer that the parser calls: a text joins the held run, and other actions end it.
 use crate::state::TerminalState;
 use cell_base::Widths;
 use cell_surface::SurfaceError;

@@ -1,4 +1,4 @@
--- Histories join, pieces may be cut anywhere, and of a stream only its unfinished end matters.
+-- Histories join, chunks may be cut anywhere, and of a stream only its unfinished end matters.
 use Rattle.std.proofs.Common.{◌≡◌, ℕ, Bool, true, false, List, [], ◌∷◌, ◌++◌, length, drop, map, fold, refl, sym, ap, ◌∙◌, append_assoc}
 use Rattle.std.proofs.lemmas.List.Sums.{fold-append}
 use Rattle.escape_framing.specs.Cut.{newly_decided}
@@ -98,9 +98,9 @@ logged_joins width_of v a b =
     ∙ events_logged-append width_of v (events v.stream a) (events (v.stream ++ pieces a) b)
     ∙ ap (λ xs. logged width_of v a ++ xs) (sym (logged_with width_of (fold (event_done width_of) v (events v.stream a)) (v.stream ++ pieces a) (events (v.stream ++ pieces a) b)))
 
--- ---- pieces may be cut anywhere
+-- ---- chunks may be cut anywhere
 
--- pieces decide what their concatenation decides
+-- chunks decide what their concatenation decides
 abbrev pub PiecesJoin : Type 0
 PiecesJoin = (stream x y : List ℕ) → newly_decided_actions stream (x ++ y) ≡ newly_decided_actions stream x ++ newly_decided_actions (stream ++ x) y
 
@@ -146,7 +146,7 @@ pub alike_logged : PiecesJoin → (width_of : List ℕ → ℕ) (v : View) (othe
 alike_logged joins width_of v other history h =
     logged_with width_of v other (events other history) ∙ ap (events_logged width_of v) (sym (alike_events joins v.stream other history h))
 
--- the same is held of two streams
+-- what is held of a stream decides what more bytes hand out
 abbrev pub HeldDecides : Type 0
 HeldDecides = (stream more : List ℕ) → newly_decided stream more ≡ (hand_out (held_of stream) more).dispatches
 

@@ -28,41 +28,42 @@ use Rattle.escape_stream.specs.StreamAction as stream
 -- Where a move of the cursor leads. Lines and columns that are named count from 1.
 pub data Move : Type 0 where
   -- by a count of rows or columns from the cursor
-  Up : ℕ → Move
-  Down : ℕ → Move
-  Left : ℕ → Move
-  Right : ℕ → Move
+  Up : ℕ → Move  -- CUU, VPB
+  Down : ℕ → Move  -- CUD, VPR
+  Left : ℕ → Move  -- CUB, HPB, BS
+  Right : ℕ → Move  -- CUF, HPR
   -- to the next column that 8 divides
-  NextTab : Move
+  NextTab : Move  -- HT
   -- to the first column of the row that is a count of rows below, or above
-  NextLine : ℕ → Move
-  PrecedingLine : ℕ → Move
+  NextLine : ℕ → Move  -- CNL
+  PrecedingLine : ℕ → Move  -- CPL
   -- to a column, to a line, or to both: the line first
-  ToColumn : ℕ → Move
-  ToLine : ℕ → Move
-  ToPosition : ℕ → ℕ → Move
+  ToColumn : ℕ → Move  -- CHA, HPA
+  ToLine : ℕ → Move  -- VPA
+  ToPosition : ℕ → ℕ → Move  -- CUP, HVP
 
+-- a control function, by its mnemonic: of ECMA-48, or of xterm's control sequences
 pub data ControlFunction : Type 0 where
   Moves : Move → ControlFunction
-  LineFeed : ControlFunction
-  CarriageReturn : ControlFunction
-  NextRow : ControlFunction
-  ReverseIndex : ControlFunction
-  EraseToEndOfDisplay : ControlFunction
-  EraseDisplay : ControlFunction
-  EraseToEndOfLine : ControlFunction
-  EraseLine : ControlFunction
-  ScrollUp : ℕ → ControlFunction
-  ScrollDown : ℕ → ControlFunction
-  Rendition : Sgr → ControlFunction
-  Hyperlink : Option Link → ControlFunction
-  Title : List ℕ → ControlFunction
-  ShowCursor : Bool → ControlFunction
-  SaveCursor : ControlFunction
-  RestoreCursor : ControlFunction
-  FullReset : ControlFunction
-  ReportStatus : ControlFunction
-  ReportPosition : ControlFunction
+  LineFeed : ControlFunction  -- LF, VT, FF, IND
+  CarriageReturn : ControlFunction  -- CR
+  NextRow : ControlFunction  -- NEL
+  ReverseIndex : ControlFunction  -- RI
+  EraseToEndOfDisplay : ControlFunction  -- ED 0
+  EraseDisplay : ControlFunction  -- ED 2
+  EraseToEndOfLine : ControlFunction  -- EL 0
+  EraseLine : ControlFunction  -- EL 2
+  ScrollUp : ℕ → ControlFunction  -- SU
+  ScrollDown : ℕ → ControlFunction  -- SD
+  Rendition : Sgr → ControlFunction  -- SGR
+  Hyperlink : Option Link → ControlFunction  -- OSC 8
+  Title : List ℕ → ControlFunction  -- OSC 0, OSC 2
+  ShowCursor : Bool → ControlFunction  -- DECTCEM
+  SaveCursor : ControlFunction  -- DECSC, SCOSC
+  RestoreCursor : ControlFunction  -- DECRC, SCORC
+  FullReset : ControlFunction  -- RIS
+  ReportStatus : ControlFunction  -- DSR 5
+  ReportPosition : ControlFunction  -- DSR 6, whose reply is CPR
 
 -- ---- control characters (ECMA-48 8.3; the numbers are those of ISO 646)
 

@@ -27,16 +27,16 @@ active_column screen = min screen.column (screen.width - 1)
 
 -- the column and the row that a move leads to from a column and a row, before the screen's edges stop it
 abbrev pub target : Move → ℕ → ℕ → ℕ × ℕ
-target (Up n) column row = (column, row - n)
-target (Down n) column row = (column, row + n)
-target (Left n) column row = (column - n, row)
-target (Right n) column row = (column + n, row)
-target NextTab column row = (8 * (column / 8 + 1), row)
-target (NextLine n) column row = (0, row + n)
-target (PrecedingLine n) column row = (0, row - n)
-target (ToColumn name) column row = (name - 1, row)
-target (ToLine name) column row = (column, name - 1)
-target (ToPosition line name) column row = (name - 1, line - 1)
+target (Up n) column row = (column, row - n)  -- CUU, VPB
+target (Down n) column row = (column, row + n)  -- CUD, VPR
+target (Left n) column row = (column - n, row)  -- CUB, HPB, BS
+target (Right n) column row = (column + n, row)  -- CUF, HPR
+target NextTab column row = (8 * (column / 8 + 1), row)  -- HT
+target (NextLine n) column row = (0, row + n)  -- CNL
+target (PrecedingLine n) column row = (0, row - n)  -- CPL
+target (ToColumn name) column row = (name - 1, row)  -- CHA, HPA
+target (ToLine name) column row = (column, name - 1)  -- VPA
+target (ToPosition line name) column row = (name - 1, line - 1)  -- CUP, HVP
 
 -- the cursor at a column and a row, or at the last ones; so no wrap is pending
 abbrev pub at_position : ℕ × ℕ → Screen → Screen
@@ -45,7 +45,7 @@ at_position at screen = record screen { column = min at.0 (screen.width - 1); ro
 abbrev pub moved : Move → Screen → Screen
 moved move screen = at_position (target move (active_column screen) screen.row) screen
 
--- the row before; on the first row all rows move down, and the column is kept, also where a wrap is pending
+-- RI: the row above; at the first row all rows move down by one, and the column is kept, also where a wrap is pending
 abbrev pub reverse_index : Screen → Screen
 reverse_index screen =
     if screen.row == 0 then record screen { rows = moved_down (plain_row screen.width) 1 screen.rows }
@@ -57,7 +57,7 @@ reverse_index screen =
 abbrev pub erased_after : ℕ → ColorAttribute → Row → Row
 erased_after column color row = closed_end (take column row) ++ blank_row (length row - column) color
 
--- of the cursor's row the columns from the cursor on: none where a wrap is pending
+-- EL 0: of the cursor's row the columns from the cursor on; none where a wrap is pending
 abbrev pub end_of_line_erased : Screen → Screen
 end_of_line_erased screen =
     record screen {
@@ -69,12 +69,12 @@ end_of_line_erased screen =
 abbrev pub blanks_for : Screen → List Row → List Row
 blanks_for screen rows = map (λ _. blank_row screen.width screen.pen.background) rows
 
--- all rows below the cursor's
+-- ED 0, after EL 0: all rows below the cursor's
 abbrev pub rows_below_erased : Screen → Screen
 rows_below_erased screen =
     record screen { rows = take (screen.row + 1) screen.rows ++ blanks_for screen (drop (screen.row + 1) screen.rows) }
 
--- the whole row, or all of them; no wrap is pending after it
+-- EL 2 and ED 2: the whole row, or all of them; no wrap is pending after it
 abbrev pub line_erased : Screen → Screen
 line_erased screen =
     record screen {
@@ -104,6 +104,7 @@ with_rendition (sgr.Background value) pen = record pen { background = attribute_
 with_rendition (sgr.Overline value) pen = record pen { overline = value }
 with_rendition (sgr.VerticalAlign value) pen = record pen { vertical_align = value }
 
+-- OSC 8
 abbrev pub with_link : Option Link → Attributes → Attributes
 with_link link pen = record pen { hyperlink = link }
 
@@ -112,7 +113,7 @@ on_pen change screen = record screen { pen = change screen.pen }
 
 -- ---- saved cursors, and a full reset
 
--- a saved cursor and its pen; it is kept within the screen, so no wrap is pending
+-- DECRC, SCORC: a saved cursor and its pen; it is kept within the screen, so no wrap is pending
 abbrev pub with_cursor : SavedCursor → Screen → Screen
 with_cursor cursor screen = record (at_position (cursor.column, cursor.row) screen) { pen = cursor.pen }
 
@@ -121,17 +122,17 @@ abbrev pub cursor_to_restore : Option SavedCursor → SavedCursor
 cursor_to_restore None = home_cursor
 cursor_to_restore (Some cursor) = cursor
 
--- a new screen, except for its title, which stays
+-- RIS: a new screen, except for its title, which stays
 abbrev pub reset_screen : Screen → Screen
 reset_screen screen = record (new_screen screen.width (height screen)) { title = screen.title }
 
--- ---- replies (DSR 5: ready; DSR 6: the cursor's line and column, counted from 1)
+-- ---- replies
 
--- ESC [ 0 n
+-- to DSR 5, ECMA-48 8.3.35: ESC [ 0 n, ready
 abbrev pub status_reply : List ℕ
 status_reply = 27 ∷ 91 ∷ 48 ∷ 110 ∷ []
 
--- ESC [ line ; column R: CPR, ECMA-48 8.3.14
+-- to DSR 6: CPR, ECMA-48 8.3.14: ESC [ line ; column R, the cursor's line and column, counted from 1
 abbrev pub position_reply : Screen → List ℕ
 position_reply screen = 27 ∷ 91 ∷ decimal (screen.row + 1) ++ 59 ∷ decimal (active_column screen + 1) ++ 82 ∷ []
 
@@ -140,27 +141,27 @@ position_reply screen = 27 ∷ 91 ∷ decimal (screen.row + 1) ++ 59 ∷ decimal
 -- what becomes of the screen
 abbrev pub screen_step : ControlFunction → Option SavedCursor → Screen → Screen
 screen_step (Moves move) saved screen = moved move screen
-screen_step LineFeed saved screen = line_feed screen
-screen_step CarriageReturn saved screen = carriage_return screen
-screen_step NextRow saved screen = line_feed (carriage_return screen)
-screen_step ReverseIndex saved screen = reverse_index screen
-screen_step EraseToEndOfDisplay saved screen = rows_below_erased (end_of_line_erased screen)
-screen_step EraseDisplay saved screen = display_erased screen
-screen_step EraseToEndOfLine saved screen = end_of_line_erased screen
-screen_step EraseLine saved screen = line_erased screen
-screen_step (ScrollUp n) saved screen =
+screen_step LineFeed saved screen = line_feed screen  -- LF, VT, FF, IND
+screen_step CarriageReturn saved screen = carriage_return screen  -- CR
+screen_step NextRow saved screen = line_feed (carriage_return screen)  -- NEL
+screen_step ReverseIndex saved screen = reverse_index screen  -- RI
+screen_step EraseToEndOfDisplay saved screen = rows_below_erased (end_of_line_erased screen)  -- ED 0
+screen_step EraseDisplay saved screen = display_erased screen  -- ED 2
+screen_step EraseToEndOfLine saved screen = end_of_line_erased screen  -- EL 0
+screen_step EraseLine saved screen = line_erased screen  -- EL 2
+screen_step (ScrollUp n) saved screen =  -- SU
     record screen { rows = moved_up (plain_row screen.width) (min n (height screen)) screen.rows }
-screen_step (ScrollDown n) saved screen =
+screen_step (ScrollDown n) saved screen =  -- SD
     record screen { rows = moved_down (plain_row screen.width) (min n (height screen)) screen.rows }
-screen_step (Rendition value) saved screen = on_pen (with_rendition value) screen
-screen_step (Hyperlink link) saved screen = on_pen (with_link link) screen
-screen_step (Title text) saved screen = record screen { title = text }
-screen_step (ShowCursor shown) saved screen = record screen { visible = shown }
-screen_step SaveCursor saved screen = screen
-screen_step RestoreCursor saved screen = with_cursor (cursor_to_restore saved) screen
-screen_step FullReset saved screen = reset_screen screen
-screen_step ReportStatus saved screen = screen
-screen_step ReportPosition saved screen = screen
+screen_step (Rendition value) saved screen = on_pen (with_rendition value) screen  -- SGR
+screen_step (Hyperlink link) saved screen = on_pen (with_link link) screen  -- OSC 8
+screen_step (Title text) saved screen = record screen { title = text }  -- OSC 0, OSC 2
+screen_step (ShowCursor shown) saved screen = record screen { visible = shown }  -- DECTCEM
+screen_step SaveCursor saved screen = screen  -- DECSC, SCOSC
+screen_step RestoreCursor saved screen = with_cursor (cursor_to_restore saved) screen  -- DECRC, SCORC
+screen_step FullReset saved screen = reset_screen screen  -- RIS
+screen_step ReportStatus saved screen = screen  -- DSR 5
+screen_step ReportPosition saved screen = screen  -- DSR 6
 
 -- of the saved cursor: only these two change it
 abbrev pub saved_step : ControlFunction → Option SavedCursor → Screen → Option SavedCursor

@@ -15,7 +15,7 @@ ghost use Rattle.terminal_table.specs.History.{Piece, Look, Resize, Forget};
 ghost use Rattle.terminal_table.specs.Samples.{seen, shown, shown_by_byte, screen_after, replies_after, logged_after};
 ghost use Rattle.terminal_table.specs.Samples.{first_column, escape, csi, osc, at, acute, wide_letter};
 
-/// A run of prints is one change, also over two pieces; a look ends it, and so does an action that
+/// A run of prints is one change, also over two chunks; a look ends it, and so does an action that
 /// does nothing else. Text goes on in the next row, and scrolls at the last.
 pub fn runs()
     ensures joined { seen 4 3 (Piece (codes "w00tfoo") ∷ Piece (codes "baarbaz") ∷ Look ∷ [])

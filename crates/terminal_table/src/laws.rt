@@ -19,7 +19,7 @@ ghost use Rattle.terminal_table.specs.Turns.{Turns, IsPrinted, IsView, AreSizes,
 ghost use Rattle.terminal_table.specs.Turns.{replayed, all_replayed};
 
 use escape_framing::laws::{held_is_enough, idle_streams, one_cut};
-use escape_stream::action_laws::actions_of_pieces_join;
+use escape_stream::action_laws::actions_of_chunks_join;
 use escape_stream::encoding_laws::writable_lists_read_on;
 
 /// The changes that are logged for a control function, for an action and for a run have on a display
@@ -95,7 +95,7 @@ pub fn logged_changes_show_the_meaning()
 }
 
 /// Going on by one history and then by another is going on by both, in what is shown and in what is
-/// logged; and a piece that is cut in two is the same piece.
+/// logged; and a chunk may be cut in two.
 pub fn histories_join()
     ensures after { (width_of : List ℕ → ℕ) (view : View) (first : History) (second : History)
         → after width_of view (first ++ second) ≡ after width_of (after width_of view first) second }
@@ -107,7 +107,7 @@ pub fn histories_join()
     ensures cut_logged { (width_of : List ℕ → ℕ) (view : View) (x : List ℕ) (y : List ℕ) (history : History)
         → logged width_of view (Piece x ∷ Piece y ∷ history) ≡ logged width_of view (Piece (x ++ y) ∷ history) }
 {
-    actions_of_pieces_join();
+    actions_of_chunks_join();
 }
 
 /// Taking the replies changes nothing else, then and later: what goes on from there shows, saves, holds and logs the
@@ -143,7 +143,7 @@ pub fn unfinished_ends_matter()
         → logged width_of (record view { stream = other }) history ≡ logged width_of view history }
 {
     held_is_enough();
-    actions_of_pieces_join();
+    actions_of_chunks_join();
 }
 
 /// The text of one action that is writable by itself, where nothing is unfinished and no run is held, and

@@ -1,7 +1,9 @@
 //! The terminal's table: what each control function makes of a terminal's state, the changes that are
 //! logged for it, and the meaning of a history.
 //!
-//! - `print_laws`: what a stream prints on a terminal's screen, and how much at least where it is plain.
+//! - `examples`: worked examples: what is seen of a new terminal after some bytes, and what is logged of them.
+//! - `laws`: laws of the table: each is the contract of a function that does nothing.
+//! - `print_laws`: laws of how much streams print at least, where they are plain.
 #![tactic(auto)]
 
 pub mod examples;

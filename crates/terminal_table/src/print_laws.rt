@@ -1,4 +1,5 @@
-//! Laws of what streams print: each is the contract of a function that does nothing.
+//! Laws of how much streams print at least, where they are plain. Each is the contract of a function that does
+//! nothing.
 ghost use Rattle.terminal_table.specs.Bounds.{NarrowStreamsPrintAsMany, PlainStreamsPrintAThird};
 
 use crate::laws::{prints_hold_no_controls, views_stay_lawful};

@@ -124,7 +124,7 @@ module _ (cut : AllCut) (width_of : List ℕ → ℕ) (narrow : width_of space �
           display = display_on_is one.view.state can.lawful.lawful;
           sound = can.sound;
           spelled = can.spelled.state.screen;
-          spellings = can.spellings;
+          encodings = can.encodings;
           shows = shows;
         } in
         record {

@@ -25,8 +25,8 @@ use Rattle.screen_log.specs.Log.{Log, due, first_number, most_due}
 use Rattle.screen_log.specs.LogSteps.{Sized}
 use Rattle.screen_effects.specs.Effect.{cursor_row}
 use Rattle.screen_repaint.specs.Repaint.{cursor_shown, end_cleared, go_with_blanks, in_next_row, pen_left, row_cells, row_painted, rows_painted}
-use Rattle.terminal_viewers.specs.Update.{due_or, last_cell, painted_anew, as_sent, update_changes, written_again}
-use Rattle.terminal_viewers.proofs.PaintLemmas.{due_of, prefix_of, painted_rows, position_of, sent_here, sent_is, sent_there}
+use Rattle.terminal_viewers.specs.Update.{due_or, last_cell, painted_anew, as_encoded, update_changes, written_again}
+use Rattle.terminal_viewers.proofs.PaintLemmas.{due_of, prefix_of, painted_rows, position_of, encoded_here, encoded_is, encoded_there}
 
 -- ---- runs of cells
 
@@ -148,11 +148,11 @@ again_count : (s : Screen) (o : Option VisibleCell) → length (written_again s 
 again_count s None = omega arith
 again_count s (Some v) = omega arith
 
-position_count : (s : Screen) → 0 < s.width → length (flat_map (as_sent s) (position_of s)) ≤ 4
+position_count : (s : Screen) → 0 < s.width → length (flat_map (as_encoded s) (position_of s)) ≤ 4
 position_count s wide =
     by_test (s.column == s.width)
-    (λ e. subst (λ (cs : List ChangeValue). length cs ≤ 4) (sym (sent_there s wide e)) (again_count s (last_cell (cursor_row s))))
-    (λ e. subst (λ (cs : List ChangeValue). length cs ≤ 4) (sym (sent_here s e)) (one_position _))
+    (λ e. subst (λ (cs : List ChangeValue). length cs ≤ 4) (sym (encoded_there s wide e)) (again_count s (last_cell (cursor_row s))))
+    (λ e. subst (λ (cs : List ChangeValue). length cs ≤ 4) (sym (encoded_here s e)) (one_position _))
   where
     one_position : (b : Bool) → length (if b then [] else CursorPosition (Absolute s.column) (Absolute s.row) ∷ []) ≤ 4
     one_position true = omega arith
@@ -167,10 +167,10 @@ bound_of s = 2 * s.width * height s + 2 * height s + 11
 
 pub painted_count : (s : Screen) → IsScreen s → length (painted_anew s) ≤ bound_of s
 painted_count s h =
-    let position : List ChangeValue = flat_map (as_sent s) (position_of s) in
+    let position : List ChangeValue = flat_map (as_encoded s) (position_of s) in
     let shown : List ChangeValue = cursor_shown s.visible None in
     let rows : List ChangeValue = painted_rows s in
-    let a : length (painted_anew s) ≡ length (prefix_of s ++ position ++ due_of s ++ shown) = ap length (sent_is s h.wide_enough) in
+    let a : length (painted_anew s) ≡ length (prefix_of s ++ position ++ due_of s ++ shown) = ap length (encoded_is s h.wide_enough) in
     let b = length-append (prefix_of s ++ position ++ due_of s) shown in
     let c = length-append (prefix_of s ++ position) (due_of s) in
     let d = length-append (prefix_of s) position in

@@ -112,7 +112,7 @@ module _ (cut : AllCut) (width_of : List ℕ → ℕ) where
         tall = small.tall;
         sound = history_sound width_of narrow cut s.view history can.lawful are can.spelled can.sound;
         spelled = history_spelled cut width_of s.view history can.lawful are can.spelled;
-        spellings = history_keeps cut width_of s.view history s.log can.lawful are can.spelled can.spellings;
+        encodings = history_keeps cut width_of s.view history s.log can.lawful are can.spelled can.encodings;
         counted = (steps_reach 0 (logged width_of s.view history) s.log (record { counted = can.counted; reached = omega arith })).counted;
       }
 

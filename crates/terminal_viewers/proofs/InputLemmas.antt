@@ -7,7 +7,7 @@ use Rattle.cell_base.specs.Screen.{Screen, height}
 use Rattle.screen_log.specs.LogSteps.{Sized}
 use Rattle.escape_framing.specs.Held.{hand_out, held_of, nothing_held}
 use Rattle.terminal_render.specs.Effects.{IsReady}
-use Rattle.terminal_render.specs.Spelling.{HaveSpellings, IsSpelledView}
+use Rattle.terminal_render.specs.Spelling.{HaveEncodings, IsSpelledView}
 use Rattle.terminal_render.proofs.LogLemmas.{history_keeps}
 use Rattle.terminal_render.proofs.StreamLemmas.{history_spelled}
 use Rattle.terminal_render.proofs.ViewLemmas.{new_spelled, display_on_is}
@@ -23,7 +23,7 @@ use Rattle.terminal_table.proofs.PrintLemmas.{AllCut}
 use Rattle.terminal_table.proofs.StateLemmas.{new_is}
 use Rattle.terminal_viewers.specs.Shows.{Shows}
 use Rattle.terminal_viewers.specs.Update.{update_of}
-use Rattle.terminal_viewers.specs.Updates.{Standing, in_pieces, looks, new_standing, standing_after, updated, updates, updates_after}
+use Rattle.terminal_viewers.specs.Updates.{Standing, in_chunks, looks, new_standing, standing_after, updated, updates, updates_after}
 use Rattle.terminal_viewers.specs.Viewers.{CanRead, UpdatesAreShown, UpdatesLeaveIdle}
 use Rattle.terminal_viewers.proofs.DueLemmas.{steps_reach}
 use Rattle.terminal_viewers.proofs.ShowLemmas.{history_shows, shows_itself}
@@ -34,7 +34,7 @@ record Stands (width_of : List ℕ → ℕ) (s : Standing) : Type 0 where
   lawful : IsView s.view
   spelled : IsSpelledView s.view
   sound : IsSoundScreen width_of s.view.state.screen
-  spellings : HaveSpellings s.view.state.screen.width (height s.view.state.screen) s.log.log.entries
+  encodings : HaveEncodings s.view.state.screen.width (height s.view.state.screen) s.log.log.entries
   counted : length s.log.log.entries ≤ s.log.log.number
 
 -- what a viewer keeps that reads them
@@ -47,33 +47,33 @@ record HasRead (later : View) (screen : Screen) : Type 0 where
   screen_is : later.state.screen ≡ screen
   reads : Reads later
 
--- ---- one piece
+-- ---- one chunk
 
 module _ (cut : AllCut) (shown : UpdatesAreShown) (idles : UpdatesLeaveIdle) (width_of : List ℕ → ℕ) (narrow : width_of space ≡ 1) where
-  next_stands : (s : Standing) (piece : List ℕ) → Stands width_of s → Stands width_of (standing_after width_of s (looks (piece ∷ [])))
-  next_stands s piece h =
-      let history = looks (piece ∷ []) in
+  next_stands : (s : Standing) (chunk : List ℕ) → Stands width_of s → Stands width_of (standing_after width_of s (looks (chunk ∷ [])))
+  next_stands s chunk h =
+      let history = looks (chunk ∷ []) in
       record {
         lawful = after_is cut width_of s.view history h.lawful tt;
         spelled = history_spelled cut width_of s.view history h.lawful tt h.spelled;
         sound = history_sound width_of narrow cut s.view history h.lawful tt h.spelled h.sound;
-        spellings = history_keeps cut width_of s.view history s.log h.lawful tt h.spelled h.spellings;
+        encodings = history_keeps cut width_of s.view history s.log h.lawful tt h.spelled h.encodings;
         counted = (steps_reach 0 (logged width_of s.view history) s.log (record { counted = h.counted; reached = omega arith })).counted;
       }
 
-  can_read : (s : Standing) (piece : List ℕ) (number : ℕ) (viewer : View) → Stands width_of s → Reads viewer → number ≤ s.log.log.number → Shows width_of viewer.state.screen number s.view.state.screen s.log
-      → CanRead width_of viewer (standing_after width_of s (looks (piece ∷ []))).view.state.screen (standing_after width_of s (looks (piece ∷ []))).log number
-  can_read s piece number viewer h r n p =
-      let later = next_stands s piece h in
+  can_read : (s : Standing) (chunk : List ℕ) (number : ℕ) (viewer : View) → Stands width_of s → Reads viewer → number ≤ s.log.log.number → Shows width_of viewer.state.screen number s.view.state.screen s.log
+      → CanRead width_of viewer (standing_after width_of s (looks (chunk ∷ []))).view.state.screen (standing_after width_of s (looks (chunk ∷ []))).log number
+  can_read s chunk number viewer h r n p =
+      let later = next_stands s chunk h in
       record {
         narrow = narrow;
         ready = r.ready;
         idle = r.idle;
-        display = display_on_is (standing_after width_of s (looks (piece ∷ []))).view.state later.lawful.lawful;
+        display = display_on_is (standing_after width_of s (looks (chunk ∷ []))).view.state later.lawful.lawful;
         sound = later.sound;
         spelled = later.spelled.state.screen;
-        spellings = later.spellings;
-        shows = history_shows width_of cut viewer.state.screen number s.view s.log (looks (piece ∷ [])) h.lawful tt (display_on_is viewer.state r.ready.lawful) h.counted n p;
+        encodings = later.encodings;
+        shows = history_shows width_of cut viewer.state.screen number s.view s.log (looks (chunk ∷ [])) h.lawful tt (display_on_is viewer.state r.ready.lawful) h.counted n p;
       }
 
   has_read : (viewer : View) (screen : Screen) (log : Sized) (number : ℕ) → CanRead width_of viewer screen log number → HasRead (after width_of viewer (Piece (update_of screen log number) ∷ [])) screen
@@ -94,35 +94,35 @@ module _ (cut : AllCut) (shown : UpdatesAreShown) (idles : UpdatesLeaveIdle) (wi
         };
       }
 
-  -- ---- all pieces
+  -- ---- all chunks
 
-  all_shown : PiecesJoin → (piece : List ℕ) (pieces : List (List ℕ)) (s : Standing) (number : ℕ) (viewer : View) → Stands width_of s → Reads viewer → number ≤ s.log.log.number → Shows width_of viewer.state.screen number s.view.state.screen s.log
-      → HasRead (after width_of viewer (Piece (updates_after width_of s number (piece ∷ pieces)) ∷ [])) (after width_of s.view (looks (piece ∷ pieces))).state.screen
-  all_shown joins piece [] s number viewer h r n p =
-      let later = standing_after width_of s (looks (piece ∷ [])) in
+  all_shown : PiecesJoin → (chunk : List ℕ) (chunks : List (List ℕ)) (s : Standing) (number : ℕ) (viewer : View) → Stands width_of s → Reads viewer → number ≤ s.log.log.number → Shows width_of viewer.state.screen number s.view.state.screen s.log
+      → HasRead (after width_of viewer (Piece (updates_after width_of s number (chunk ∷ chunks)) ∷ [])) (after width_of s.view (looks (chunk ∷ chunks))).state.screen
+  all_shown joins chunk [] s number viewer h r n p =
+      let later = standing_after width_of s (looks (chunk ∷ [])) in
       subst (λ (bytes : List ℕ). HasRead (after width_of viewer (Piece bytes ∷ [])) later.view.state.screen) (sym (nothing_after (update_of later.view.state.screen later.log number)))
-      (has_read viewer later.view.state.screen later.log number (can_read s piece number viewer h r n p))
-  all_shown joins piece (other ∷ pieces) s number viewer h r n p =
-      let later = standing_after width_of s (looks (piece ∷ [])) in
+      (has_read viewer later.view.state.screen later.log number (can_read s chunk number viewer h r n p))
+  all_shown joins chunk (other ∷ chunks) s number viewer h r n p =
+      let later = standing_after width_of s (looks (chunk ∷ [])) in
       let update = update_of later.view.state.screen later.log number in
-      let rest = updates_after width_of later later.log.log.number (other ∷ pieces) in
-      let stands = next_stands s piece h in
-      let read = has_read viewer later.view.state.screen later.log number (can_read s piece number viewer h r n p) in
+      let rest = updates_after width_of later later.log.log.number (other ∷ chunks) in
+      let stands = next_stands s chunk h in
+      let read = has_read viewer later.view.state.screen later.log number (can_read s chunk number viewer h r n p) in
       let shows = subst (λ (x : Screen). Shows width_of x later.log.log.number later.view.state.screen later.log) (sym read.screen_is) (shows_itself width_of later.view.state.screen later.log stands.counted) in
-      let remaining = all_shown joins other pieces later later.log.log.number (after width_of viewer (Piece update ∷ [])) stands read.reads (omega arith) shows in
-      subst (λ (v : View). HasRead v (after width_of s.view (looks (piece ∷ other ∷ pieces))).state.screen)
+      let remaining = all_shown joins other chunks later later.log.log.number (after width_of viewer (Piece update ∷ [])) stands read.reads (omega arith) shows in
+      subst (λ (v : View). HasRead v (after width_of s.view (looks (chunk ∷ other ∷ chunks))).state.screen)
       (sym (sym (cut_after joins width_of viewer update rest []) ∙ after_joins width_of viewer (Piece update ∷ []) (Piece rest ∷ [])))
-      (subst (λ (v : View). HasRead (after width_of (after width_of viewer (Piece update ∷ [])) (Piece rest ∷ [])) v.state.screen) (sym (after_joins width_of s.view (looks (piece ∷ [])) (looks (other ∷ pieces)))) remaining)
+      (subst (λ (v : View). HasRead (after width_of (after width_of viewer (Piece update ∷ [])) (Piece rest ∷ [])) v.state.screen) (sym (after_joins width_of s.view (looks (chunk ∷ [])) (looks (other ∷ chunks)))) remaining)
 
   -- ---- the input
 
-  some_piece : (every : ℕ) (begun input : List ℕ) → (piece : List ℕ) × (pieces : List (List ℕ)) × (in_pieces every begun input ≡ piece ∷ pieces)
-  some_piece every begun [] = (begun, [], refl)
-  some_piece every begun (byte ∷ input) = by_test (length begun + 1 == every) (some_piece every (begun ++ byte ∷ []) input)
+  some_chunk : (every : ℕ) (begun input : List ℕ) → (chunk : List ℕ) × (chunks : List (List ℕ)) × (in_chunks every begun input ≡ chunk ∷ chunks)
+  some_chunk every begun [] = (begun, [], refl)
+  some_chunk every begun (byte ∷ input) = by_test (length begun + 1 == every) (some_chunk every (begun ++ byte ∷ []) input)
     where
-      by_test : (b : Bool) → (piece : List ℕ) × (pieces : List (List ℕ)) × (in_pieces every (begun ++ byte ∷ []) input ≡ piece ∷ pieces)
-          → (piece : List ℕ) × (pieces : List (List ℕ)) × ((if b then (begun ++ byte ∷ []) ∷ in_pieces every [] input else in_pieces every (begun ++ byte ∷ []) input) ≡ piece ∷ pieces)
-      by_test true r = (begun ++ byte ∷ [], in_pieces every [] input, refl)
+      by_test : (b : Bool) → (chunk : List ℕ) × (chunks : List (List ℕ)) × (in_chunks every (begun ++ byte ∷ []) input ≡ chunk ∷ chunks)
+          → (chunk : List ℕ) × (chunks : List (List ℕ)) × ((if b then (begun ++ byte ∷ []) ∷ in_chunks every [] input else in_chunks every (begun ++ byte ∷ []) input) ≡ chunk ∷ chunks)
+      by_test true r = (begun ++ byte ∷ [], in_chunks every [] input, refl)
       by_test false r = r
 
   new_stands : (width height : ℕ) → 0 < width → 0 < height → Stands width_of (new_standing width height)
@@ -130,7 +130,7 @@ module _ (cut : AllCut) (shown : UpdatesAreShown) (idles : UpdatesLeaveIdle) (wi
     lawful = record { lawful = new_is width height w t; plain = refl };
     spelled = new_spelled width height;
     sound = new_sound width_of narrow width height;
-    spellings = tt;
+    encodings = tt;
     counted = omega arith;
   }
 
@@ -148,8 +148,8 @@ module _ (cut : AllCut) (shown : UpdatesAreShown) (idles : UpdatesLeaveIdle) (wi
       → HasRead (after width_of (new_view width height) (Piece (updates width_of width height every input) ∷ [])) (updated width_of width height every input).state.screen
   input_read joins width height every input w wide t tall =
       let s = new_standing width height in
-      let p = some_piece every [] input in
-      subst (λ pieces. HasRead (after width_of (new_view width height) (Piece (updates_after width_of s 0 pieces) ∷ [])) (after width_of (new_view width height) (looks pieces)).state.screen) (sym p.2)
+      let p = some_chunk every [] input in
+      subst (λ chunks. HasRead (after width_of (new_view width height) (Piece (updates_after width_of s 0 chunks) ∷ [])) (after width_of (new_view width height) (looks chunks)).state.screen) (sym p.2)
       (all_shown joins p.0 p.1 s 0 (new_view width height) (new_stands width height w t) (new_reads width height w wide t tall) (omega arith) (record { wide = refl; tall = refl; leads = tt }))
 
   pub input_is_shown : PiecesJoin → (width height every : ℕ) (input : List ℕ) → 0 < width → width < 2 ^ 32 → 0 < height → height < 2 ^ 32

@@ -3,7 +3,7 @@ pub mod DueLemmas
 pub mod ShowLemmas
 pub mod ViewerLemmas
 pub mod InputLemmas
-pub mod PieceLemmas
+pub mod ChunkLemmas
 pub mod KeptLemmas
 pub mod PositionLemmas
 pub mod PaintLemmas

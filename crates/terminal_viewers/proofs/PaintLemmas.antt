@@ -28,7 +28,7 @@ use Rattle.screen_repaint.specs.Repaint.{are_some, cursor_placed, cursor_shown, 
 use Rattle.screen_repaint.specs.Shown.{shown_on}
 use Rattle.screen_repaint.proofs.WholeLemmas.{titled_is_shown}
 use Rattle.screen_effects.specs.WrittenCells.{IsSoundDisplay, IsSoundRow}
-use Rattle.terminal_viewers.specs.Update.{display_on, last_cell, painted_anew, as_sent, written_again}
+use Rattle.terminal_viewers.specs.Update.{display_on, last_cell, painted_anew, as_encoded, written_again}
 use Rattle.terminal_viewers.proofs.PositionLemmas.{row_is, written_is}
 
 -- ---- the changes of rows
@@ -107,25 +107,25 @@ each_of_row f g same (change ∷ changes) p = λ i. same change p.0 i ++ each_of
 -- ---- the changes that are sent otherwise
 
 -- none of a row, as the width isn't 0
-pub sent_of_row : (s : Screen) → 0 < s.width → (change : ChangeValue) → IsOfRow change → as_sent s change ≡ change ∷ []
-sent_of_row s wide (CursorPosition (Absolute column) y) p =
+pub encoded_of_row : (s : Screen) → 0 < s.width → (change : ChangeValue) → IsOfRow change → as_encoded s change ≡ change ∷ []
+encoded_of_row s wide (CursorPosition (Absolute column) y) p =
     let not_there : (column == s.width) ≡ false = grind (arith, nat_tests) in
     ap (λ b. if b then written_again s (last_cell (cursor_row s)) else CursorPosition (Absolute column) y ∷ []) not_there
-sent_of_row s wide change p = refl
+encoded_of_row s wide change p = refl
 
 pub all_alone : (changes : List ChangeValue) → flat_map (λ change. change ∷ []) changes ≡ changes
 all_alone changes = flat_map_single (λ (change : ChangeValue). change) changes ∙ map-id changes
 
-due_sent : (s : Screen) (pen a : Attributes) → flat_map (as_sent s) (attributes_due pen a) ≡ attributes_due pen a
-due_sent s pen a = by_answer (same_attributes a pen)
+due_encoded : (s : Screen) (pen a : Attributes) → flat_map (as_encoded s) (attributes_due pen a) ≡ attributes_due pen a
+due_encoded s pen a = by_answer (same_attributes a pen)
   where
-    by_answer : (b : Bool) → flat_map (as_sent s) (if b then [] else AllAttributes a ∷ []) ≡ (if b then [] else AllAttributes a ∷ [])
+    by_answer : (b : Bool) → flat_map (as_encoded s) (if b then [] else AllAttributes a ∷ []) ≡ (if b then [] else AllAttributes a ∷ [])
     by_answer true = refl
     by_answer false = refl
 
-shown_sent : (s : Screen) (visible : Bool) → flat_map (as_sent s) (cursor_shown visible None) ≡ cursor_shown visible None
-shown_sent s true = refl
-shown_sent s false = refl
+shown_encoded : (s : Screen) (visible : Bool) → flat_map (as_encoded s) (cursor_shown visible None) ≡ cursor_shown visible None
+shown_encoded s true = refl
+shown_encoded s false = refl
 
 -- the parts of what paints a screen anew
 abbrev pub painted_rows : Screen → List ChangeValue
@@ -141,25 +141,25 @@ abbrev pub due_of : Screen → List ChangeValue
 due_of s = attributes_due (pen_left plain (painted_rows s)) s.pen
 
 -- only the position of the cursor is sent otherwise
-pub sent_is : (s : Screen) → 0 < s.width → painted_anew s ≡ prefix_of s ++ flat_map (as_sent s) (position_of s) ++ due_of s ++ cursor_shown s.visible None
-sent_is s wide =
-    let f : ChangeValue → List ChangeValue = as_sent s in
+pub encoded_is : (s : Screen) → 0 < s.width → painted_anew s ≡ prefix_of s ++ flat_map (as_encoded s) (position_of s) ++ due_of s ++ cursor_shown s.visible None
+encoded_is s wide =
+    let f : ChangeValue → List ChangeValue = as_encoded s in
     let begin : List ChangeValue = (CursorVisibility Hidden ∷ ClearScreen attribute.Default ∷ []) ++ (Title s.title ∷ []) in
     let rows : List ChangeValue = painted_rows s in
     let shown : List ChangeValue = cursor_shown s.visible None in
-    let rows_are : flat_map f rows ≡ rows = each_of_row f (λ change. change ∷ []) (sent_of_row s wide) rows (rows_of_row plain s.rows) ∙ all_alone rows in
+    let rows_are : flat_map f rows ≡ rows = each_of_row f (λ change. change ∷ []) (encoded_of_row s wide) rows (rows_of_row plain s.rows) ∙ all_alone rows in
     flat_map-append f (begin ++ rows ++ position_of s ++ due_of s) shown
-    ∙ (λ i. flat_map-append f (begin ++ rows ++ position_of s) (due_of s) i ++ shown_sent s s.visible i)
-    ∙ (λ i. flat_map-append f (begin ++ rows) (position_of s) i ++ due_sent s (pen_left plain rows) s.pen i ++ shown)
+    ∙ (λ i. flat_map-append f (begin ++ rows ++ position_of s) (due_of s) i ++ shown_encoded s s.visible i)
+    ∙ (λ i. flat_map-append f (begin ++ rows) (position_of s) i ++ due_encoded s (pen_left plain rows) s.pen i ++ shown)
     ∙ (λ i. flat_map-append f begin rows i ++ flat_map f (position_of s) ++ due_of s ++ shown)
     ∙ (λ i. begin ++ rows_are i ++ flat_map f (position_of s) ++ due_of s ++ shown)
 
 -- ---- no wrap is pending
 
-pub sent_here : (s : Screen) → (s.column == s.width) ≡ false → flat_map (as_sent s) (position_of s) ≡ position_of s
-sent_here s e = by_answer (not (are_some (painted_rows s)) && (s.column == 0 && s.row == 0))
+pub encoded_here : (s : Screen) → (s.column == s.width) ≡ false → flat_map (as_encoded s) (position_of s) ≡ position_of s
+encoded_here s e = by_answer (not (are_some (painted_rows s)) && (s.column == 0 && s.row == 0))
   where
-    by_answer : (b : Bool) → flat_map (as_sent s) (if b then [] else CursorPosition (Absolute s.column) (Absolute s.row) ∷ []) ≡ (if b then [] else CursorPosition (Absolute s.column) (Absolute s.row) ∷ [])
+    by_answer : (b : Bool) → flat_map (as_encoded s) (if b then [] else CursorPosition (Absolute s.column) (Absolute s.row) ∷ []) ≡ (if b then [] else CursorPosition (Absolute s.column) (Absolute s.row) ∷ [])
     by_answer true = refl
     by_answer false = ap (λ b. (if b then written_again s (last_cell (cursor_row s)) else CursorPosition (Absolute s.column) (Absolute s.row) ∷ []) ++ []) e
 
@@ -175,9 +175,9 @@ placed_there s wide e =
     let test : (not (are_some (painted_rows s)) && (s.column == 0 && s.row == 0)) ≡ false = ap (λ b. not (are_some (painted_rows s)) && (b && s.row == 0)) not_home ∙ and_false (not (are_some (painted_rows s))) in
     ap (λ b. if b then [] else CursorPosition (Absolute s.column) (Absolute s.row) ∷ []) test
 
-pub sent_there : (s : Screen) → 0 < s.width → (s.column == s.width) ≡ true → flat_map (as_sent s) (position_of s) ≡ written_again s (last_cell (cursor_row s))
-sent_there s wide e =
-    ap (flat_map (as_sent s)) (placed_there s wide e)
+pub encoded_there : (s : Screen) → 0 < s.width → (s.column == s.width) ≡ true → flat_map (as_encoded s) (position_of s) ≡ written_again s (last_cell (cursor_row s))
+encoded_there s wide e =
+    ap (flat_map (as_encoded s)) (placed_there s wide e)
     ∙ ap (λ b. (if b then written_again s (last_cell (cursor_row s)) else CursorPosition (Absolute s.column) (Absolute s.row) ∷ []) ++ []) e
     ∙ append-nil (written_again s (last_cell (cursor_row s)))
 
@@ -231,8 +231,8 @@ module _ (width_of : List ℕ → ℕ) where
 
     here : (s.column == s.width) ≡ false → (replay width_of other (painted_anew s)).screen ≡ s
     here e =
-        let as_sent : painted_anew s ≡ repaint_with (Title s.title ∷ []) (display_on s) = sent_is s h.lawful.wide_enough ∙ ap (λ (cs : List ChangeValue). prefix_of s ++ cs ++ due_of s ++ shown_now) (sent_here s e) in
-        ap (λ (cs : List ChangeValue). (replay width_of other cs).screen) as_sent ∙ ap (λ (d : Display). d.screen) law
+        let as_encoded : painted_anew s ≡ repaint_with (Title s.title ∷ []) (display_on s) = encoded_is s h.lawful.wide_enough ∙ ap (λ (cs : List ChangeValue). prefix_of s ++ cs ++ due_of s ++ shown_now) (encoded_here s e) in
+        ap (λ (cs : List ChangeValue). (replay width_of other cs).screen) as_encoded ∙ ap (λ (d : Display). d.screen) law
 
     there : (s.column == s.width) ≡ true → (replay width_of other (painted_anew s)).screen ≡ s
     there e =
@@ -254,7 +254,7 @@ module _ (width_of : List ℕ → ℕ) where
         let test : (s.column == d.screen.width) ≡ true = ap (λ n. s.column == n) width ∙ e in
         let same : on_screen (λ t. record t { column = t.width; row = s.row; pen = s.pen }) d ≡ on_screen (with_pen s.pen) moved =
         λ i. on_screen (λ t. record t { column = at_width d.screen.width d.screen.column test i; row = sym (row_is (length d.screen.rows) d.screen.row s.row tall) i; pen = s.pen }) d in
-        ap (λ (cs : List ChangeValue). (replay width_of other cs).screen) (sent_is s h.lawful.wide_enough ∙ ap (λ (cs : List ChangeValue). prefix_of s ++ cs ++ due_of s ++ shown_now) (sent_there s h.lawful.wide_enough e))
+        ap (λ (cs : List ChangeValue). (replay width_of other cs).screen) (encoded_is s h.lawful.wide_enough ∙ ap (λ (cs : List ChangeValue). prefix_of s ++ cs ++ due_of s ++ shown_now) (encoded_there s h.lawful.wide_enough e))
         ∙ ap (λ (x : Display). x.screen) (three_parts other (prefix_of s) again (due_of s) shown_now)
         ∙ after_pen moved (replay width_of d again) pen s.pen s.visible (ap (λ (x : Display). x.screen) (written ∙ same))
         ∙ ap (λ (x : Display). with_pen s.pen x.screen) end

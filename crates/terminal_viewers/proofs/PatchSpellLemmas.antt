@@ -1,4 +1,4 @@
--- What holds of each change of a patch: it has a spelling.
+-- What holds of each change of a patch: it has an encoding.
 use Rattle.std.proofs.Common.{◌≡◌, inl, ℕ, ◌+◌, ◌<◌, ◌≤◌, Bool, List, [], ◌∷◌, ◌++◌, length, take, map, refl, sym, ap, subst, ◌∙◌, arith}
 use Rattle.std.specs.Prelude.{All, ◌==◌, ◌&&◌, not, Option, Some, None, if◌then◌else◌}
 use Rattle.std.specs.List.{AllByRecursion}
@@ -25,8 +25,8 @@ use Rattle.screen_difference.specs.FreshCells.{PlacedCell, columns_from, fresh, 
 use Rattle.screen_effects.specs.Display.{IsDisplay}
 use Rattle.screen_effects.specs.Effect.{cursor_row}
 use Rattle.terminal_viewers.specs.Patch.{patch_changes, position_and_pen}
-use Rattle.terminal_render.specs.Spelling.{HasSpelling, HaveSpellings, IsSpelledPen, IsSpelledRow, IsSpelledRun, IsSpelledScreen, IsSpelledTitle}
-use Rattle.terminal_render.proofs.ChangeLemmas.{has_spelling, coordinate_some}
+use Rattle.terminal_render.specs.Spelling.{HasEncoding, HaveEncodings, IsSpelledPen, IsSpelledRow, IsSpelledRun, IsSpelledScreen, IsSpelledTitle}
+use Rattle.terminal_render.proofs.ChangeLemmas.{is_encoded, coordinate_some}
 use Rattle.terminal_viewers.proofs.RepaintLemmas.{AreSpelledCellRuns, AreSpelledCells, runs_spelled, texts_spelled}
 use Rattle.terminal_render.proofs.TextLemmas.{AreSpelledRuns}
 use Rattle.terminal_table.specs.Changes.{visibility}
@@ -36,7 +36,7 @@ use Rattle.terminal_viewers.proofs.SpellLemmas.{last_from}
 
 -- ---- cells
 
--- a cell's text and attributes have a spelling, and it begins before a column
+-- a cell's text and attributes have an encoding, and it begins before a column
 abbrev IsSpelledCell : ℕ → ℕ → CellContent → Type 0
 IsSpelledCell width column cell = (IsSpelledRun cell.text × IsSpelledPen cell.attributes) × (column < width)
 
@@ -115,7 +115,7 @@ stretches_spelled width (c ∷ cells) p = before_spelled width c (stretches cell
 
 -- ---- each change of a patch
 
--- What holds of a text and of attributes that have a spelling, of a place before the last column, and of the other kinds of changes,
+-- What holds of a text and of attributes that have an encoding, of a position before the last column, and of the other kinds of changes,
 -- holds of each change of a patch.
 module _ (width : ℕ) (P : ChangeValue → Type 0) (of_text : (text : List ℕ) → IsSpelledRun text → P (Text text)) (of_pen : (pen : Attributes) → IsSpelledPen pen → P (AllAttributes pen))
     (of_position : (column row : ℕ) → column < width → P (CursorPosition (Absolute column) (Absolute row))) (of_title : (title : List ℕ) → IsSpelledTitle title → P (Title title)) (of_sight : (visible : Bool) → P (CursorVisibility (visibility visible))) where
@@ -183,21 +183,21 @@ module _ (width : ℕ) (P : ChangeValue → Type 0) (of_text : (text : List ℕ)
             (of_sight new.visible, tt),
       )
 
--- ---- spellings
+-- ---- encodings
 
-all_have : (width tall : ℕ) (changes : List ChangeValue) → AllByRecursion (HasSpelling width tall) changes → HaveSpellings width tall changes
+all_have : (width tall : ℕ) (changes : List ChangeValue) → AllByRecursion (HasEncoding width tall) changes → HaveEncodings width tall changes
 all_have width tall [] p = tt
 all_have width tall (change ∷ changes) p = (p.0, all_have width tall changes p.1)
 
-pub patch_has : (old new : Screen) → IsDisplay (display_on old) → IsDisplay (display_on new) → old.width ≡ new.width → height old ≡ height new → IsSpelledScreen new → HaveSpellings new.width (height new) (patch_changes old new)
+pub patch_has : (old new : Screen) → IsDisplay (display_on old) → IsDisplay (display_on new) → old.width ≡ new.width → height old ≡ height new → IsSpelledScreen new → HaveEncodings new.width (height new) (patch_changes old new)
 patch_has old new g h wide tall p =
     let w = new.width in
     let n = height new in
     all_have w n (patch_changes old new)
-    (each_of_patch w (HasSpelling w n)
-    (λ text q. has_spelling w n (Text text) q.spelled tt (inl q.printed))
-    (λ pen q. has_spelling w n (AllAttributes pen) q tt tt)
-    (λ column row lt. has_spelling w n (CursorPosition (Absolute column) (Absolute row)) tt (coordinate_some w n column (Absolute row) lt) tt)
-    (λ title q. has_spelling w n (Title title) q tt tt)
-    (λ visible. has_spelling w n (CursorVisibility (visibility visible)) tt tt tt)
+    (each_of_patch w (HasEncoding w n)
+    (λ text q. is_encoded w n (Text text) q.spelled tt (inl q.printed))
+    (λ pen q. is_encoded w n (AllAttributes pen) q tt tt)
+    (λ column row lt. is_encoded w n (CursorPosition (Absolute column) (Absolute row)) tt (coordinate_some w n column (Absolute row) lt) tt)
+    (λ title q. is_encoded w n (Title title) q tt tt)
+    (λ visible. is_encoded w n (CursorVisibility (visibility visible)) tt tt tt)
     old new refl g h wide p)

@@ -203,7 +203,7 @@ PrintsJoin = (width_of : List ℕ → ℕ) (display : Display) (first : List Cha
 abbrev pub StillJoin : Type 0
 StillJoin = (width_of : List ℕ → ℕ) (display : Display) (first : List ChangeValue) (second : List ChangeValue) → texts_scroll width_of display first ≡ false → texts_scroll width_of (replay width_of display first) second ≡ false → texts_scroll width_of display (first ++ second) ≡ false
 
--- the cell that is written once more, at its place
+-- the cell that is written once more, at its position
 abbrev again_at : ℕ → VisibleCell → PlacedCell
 again_at row v = record { row = row; column = v.column; cell = v.cell }
 

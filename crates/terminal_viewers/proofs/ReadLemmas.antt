@@ -22,14 +22,14 @@ use Rattle.terminal_viewers.proofs.PrintLemmas.{DifferencesAreStill, Differences
 use Rattle.terminal_table.specs.Prints.{ArePlainEvents, events_print, prints}
 use Rattle.terminal_render.specs.Effects.{actions_done}
 use Rattle.terminal_render.specs.Lists.{ListTextsHaveTheEffect, ListTextsLeaveIdle}
-use Rattle.terminal_render.specs.Spelling.{HaveSpellings, IsSpelledScreen}
+use Rattle.terminal_render.specs.Spelling.{HaveEncodings, IsSpelledScreen}
 use Rattle.terminal_render.proofs.ViewLemmas.{display_on_is}
 use Rattle.terminal_table.specs.History.{Act, Event, Looked}
 use Rattle.terminal_table.specs.Meaning.{View, event_done}
 use Rattle.terminal_table.proofs.RunLemmas.{no_clusters}
 use Rattle.terminal_viewers.specs.Shows.{replayed_on}
 use Rattle.terminal_viewers.specs.Update.{display_on}
-use Rattle.terminal_viewers.proofs.ViewerLemmas.{CanFollow, Sent, SpelledChangesAreWritable, changes_are_shown, changes_leave_idle, sent}
+use Rattle.terminal_viewers.proofs.ViewerLemmas.{CanFollow, Encoded, SpelledChangesAreWritable, changes_are_shown, changes_leave_idle, sent}
 
 -- ---- what is taken of the laws of patches
 
@@ -37,10 +37,10 @@ abbrev pub PatchesLead : Type 0
 PatchesLead = (width_of : List ℕ → ℕ) (old : Screen) (new : Screen) → width_of space ≡ 1 → IsDisplay (display_on old) → IsDisplay (display_on new) → IsSoundDisplay width_of (display_on new) → old.width ≡ new.width → height old ≡ height new
     → replayed_on width_of old (patch_changes old new) ≡ new
 
-abbrev pub PatchesHaveSpellings : Type 0
-PatchesHaveSpellings = (old : Screen) (new : Screen) → IsDisplay (display_on old) → IsDisplay (display_on new) → old.width ≡ new.width → height old ≡ height new → IsSpelledScreen new → HaveSpellings new.width (height new) (patch_changes old new)
+abbrev pub PatchesHaveEncodings : Type 0
+PatchesHaveEncodings = (old : Screen) (new : Screen) → IsDisplay (display_on old) → IsDisplay (display_on new) → old.width ≡ new.width → height old ≡ height new → IsSpelledScreen new → HaveEncodings new.width (height new) (patch_changes old new)
 
-module _ (leads : PatchesLead) (spells : PatchesHaveSpellings) (writes : SpelledChangesAreWritable) where
+module _ (leads : PatchesLead) (spells : PatchesHaveEncodings) (writes : SpelledChangesAreWritable) where
   can_follow : (width_of : List ℕ → ℕ) (viewer : View) (screen : Screen) → CanReadPatch width_of viewer screen → CanFollow width_of viewer screen (patch_changes viewer.state.screen screen)
   can_follow width_of viewer screen can =
       let old : Screen = viewer.state.screen in
@@ -77,7 +77,7 @@ module _ (leads : PatchesLead) (spells : PatchesHaveSpellings) (writes : Spelled
       shown : IsDisplay (display_on old)
       shown = display_on_is viewer.state can.ready.lawful
 
-      s : Sent viewer screen changes
+      s : Encoded viewer screen changes
       s = sent writes f viewer screen changes (can_follow f viewer screen can)
 
       abbrev texts : List PlacedText

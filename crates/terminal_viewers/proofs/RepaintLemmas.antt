@@ -1,4 +1,4 @@
--- The changes of a repaint have a spelling.
+-- The changes of a repaint have an encoding.
 use Rattle.std.proofs.Common.{◌≡◌, ℕ, ◌+◌, ◌<◌, ◌≤◌, ◌⊎◌, inl, inr, Bool, true, false, List, [], ◌∷◌, ◌++◌, map, fold, refl, sym, subst, arith}
 use Rattle.std.specs.Prelude.{All, ⊤, not, ◌==◌, ◌&&◌, ◌||◌, pos, Option, Some, None, if◌then◌else◌}
 use Rattle.std.specs.List.{AllByRecursion, list_any, concat}
@@ -23,9 +23,9 @@ use Rattle.cell_edits.specs.VisibleCells.{visible_from, contents}
 use Rattle.escape_framing.proofs.Existence.Utf8Lemmas.{order}
 use Rattle.screen_effects.specs.Display.{Display, IsDisplay}
 use Rattle.screen_repaint.specs.Repaint.{pen_left, row_cells, go_with_blanks, end_cleared, row_painted, in_next_row, rows_painted, are_some, cursor_placed, cursor_shown, title_due, repaint}
-use Rattle.terminal_render.specs.Spelling.{IsSpelledColor, IsSpelledPen, IsSpelledRun, IsSpelledRow, IsSpelledScreen, HasSpelling, HaveSpellings, IsLeftOut, HaveOtherSpellings}
+use Rattle.terminal_render.specs.Spelling.{IsSpelledColor, IsSpelledPen, IsSpelledRun, IsSpelledRow, IsSpelledScreen, HasEncoding, HaveEncodings, IsLeftOut, HaveOtherEncodings}
 use Rattle.terminal_render.proofs.TextLemmas.{AreSpelledRuns, run_append, run_nil}
-use Rattle.terminal_render.proofs.ChangeLemmas.{has_spelling, spellings_append, coordinate_some}
+use Rattle.terminal_render.proofs.ChangeLemmas.{is_encoded, encodings_append, coordinate_some}
 
 -- ---- cells
 
@@ -85,65 +85,65 @@ runs_spelled (cell ∷ cells) p = before_spelled cell (cell_runs cells) p.0.0 p.
 -- ---- a repaint
 
 module _ (width tall : ℕ) (some : 0 < width) where
-  abbrev Sent : List ChangeValue → Type 0
-  Sent changes = HaveSpellings width tall changes
+  abbrev Encoded : List ChangeValue → Type 0
+  Encoded changes = HaveEncodings width tall changes
 
-  pub due_sent : (pen a : Attributes) → IsSpelledPen a → Sent (attributes_due pen a)
-  due_sent pen a p = cond_both (same_attributes a pen) _ _ Sent (λ e. tt) (λ e. (has_spelling width tall (AllAttributes a) p tt tt, tt))
+  pub due_encoded : (pen a : Attributes) → IsSpelledPen a → Encoded (attributes_due pen a)
+  due_encoded pen a p = cond_both (same_attributes a pen) _ _ Encoded (λ e. tt) (λ e. (is_encoded width tall (AllAttributes a) p tt tt, tt))
 
-  encoded_texts : (ts : List (List ℕ)) → AreSpelledRuns ts → Sent (map Text ts)
+  encoded_texts : (ts : List (List ℕ)) → AreSpelledRuns ts → Encoded (map Text ts)
   encoded_texts [] p = tt
-  encoded_texts (t ∷ ts) p = (has_spelling width tall (Text t) p.0.spelled tt (inl p.0.printed), encoded_texts ts p.1)
+  encoded_texts (t ∷ ts) p = (is_encoded width tall (Text t) p.0.spelled tt (inl p.0.printed), encoded_texts ts p.1)
 
-  runs_sent : (pen : Attributes) (runs : List CellRun) → AreSpelledCellRuns runs → Sent (runs_written pen runs)
-  runs_sent pen [] p = tt
-  runs_sent pen (run ∷ runs) p =
-      spellings_append width tall (attributes_due pen run.attributes ++ map Text (texts run.cells)) (runs_written run.attributes runs)
-      (spellings_append width tall (attributes_due pen run.attributes) (map Text (texts run.cells)) (due_sent pen run.attributes p.0.0) (encoded_texts (texts run.cells) (texts_spelled run.cells p.0.1)))
-      (runs_sent run.attributes runs p.1)
+  runs_encoded : (pen : Attributes) (runs : List CellRun) → AreSpelledCellRuns runs → Encoded (runs_written pen runs)
+  runs_encoded pen [] p = tt
+  runs_encoded pen (run ∷ runs) p =
+      encodings_append width tall (attributes_due pen run.attributes ++ map Text (texts run.cells)) (runs_written run.attributes runs)
+      (encodings_append width tall (attributes_due pen run.attributes) (map Text (texts run.cells)) (due_encoded pen run.attributes p.0.0) (encoded_texts (texts run.cells) (texts_spelled run.cells p.0.1)))
+      (runs_encoded run.attributes runs p.1)
 
-  clear_sent : (color : ColorAttribute) → IsSpelledColor color → Sent (clear_due color)
-  clear_sent (attribute.TrueColorWithPaletteFallback c index) h = absurd h
-  clear_sent (attribute.TrueColorWithDefaultFallback c) h = (has_spelling width tall (ClearToEndOfLine (attribute.TrueColorWithDefaultFallback c)) h tt tt, tt)
-  clear_sent (attribute.PaletteIndex index) h = (has_spelling width tall (ClearToEndOfLine (attribute.PaletteIndex index)) h tt tt, tt)
-  clear_sent attribute.Default h = tt
+  clear_encoded : (color : ColorAttribute) → IsSpelledColor color → Encoded (clear_due color)
+  clear_encoded (attribute.TrueColorWithPaletteFallback c index) h = absurd h
+  clear_encoded (attribute.TrueColorWithDefaultFallback c) h = (is_encoded width tall (ClearToEndOfLine (attribute.TrueColorWithDefaultFallback c)) h tt tt, tt)
+  clear_encoded (attribute.PaletteIndex index) h = (is_encoded width tall (ClearToEndOfLine (attribute.PaletteIndex index)) h tt tt, tt)
+  clear_encoded attribute.Default h = tt
 
-  end_sent : (background : Option ColorAttribute) (below_too : Bool) → IsSpelledOption background → Sent (end_cleared background below_too)
-  end_sent None below_too h = tt
-  end_sent (Some color) true h = (has_spelling width tall (ClearToEndOfScreen color) h tt tt, tt)
-  end_sent (Some color) false h = clear_sent color h
+  end_encoded : (background : Option ColorAttribute) (below_too : Bool) → IsSpelledOption background → Encoded (end_cleared background below_too)
+  end_encoded None below_too h = tt
+  end_encoded (Some color) true h = (is_encoded width tall (ClearToEndOfScreen color) h tt tt, tt)
+  end_encoded (Some color) false h = clear_encoded color h
 
-  row_sent : (pen : Attributes) (cells : List CellContent) (below_too : Bool) → AreSpelledCells cells → Sent (row_painted pen cells below_too)
-  row_sent pen cells below_too p =
+  row_encoded : (pen : Attributes) (cells : List CellContent) (below_too : Bool) → AreSpelledCells cells → Encoded (row_painted pen cells below_too)
+  row_encoded pen cells below_too p =
       let background = background_at_end cells in
-      spellings_append width tall (cells_written pen (less_blanks background cells)) (end_cleared background below_too)
-      (runs_sent pen (cell_runs (less_blanks background cells)) (runs_spelled (less_blanks background cells) (less_spelled background cells p)))
-      (end_sent background below_too (background_spelled cells p))
+      encodings_append width tall (cells_written pen (less_blanks background cells)) (end_cleared background below_too)
+      (runs_encoded pen (cell_runs (less_blanks background cells)) (runs_spelled (less_blanks background cells) (less_spelled background cells p)))
+      (end_encoded background below_too (background_spelled cells p))
 
-  next_sent : (changes : List ChangeValue) → Sent changes → Sent (in_next_row changes)
-  next_sent [] p = tt
-  next_sent (change ∷ changes) p = (has_spelling width tall (CursorPosition (Absolute 0) (Relative (pos 1))) tt (coordinate_some width tall 0 (Relative (pos 1)) some) tt, p)
+  next_encoded : (changes : List ChangeValue) → Encoded changes → Encoded (in_next_row changes)
+  next_encoded [] p = tt
+  next_encoded (change ∷ changes) p = (is_encoded width tall (CursorPosition (Absolute 0) (Relative (pos 1))) tt (coordinate_some width tall 0 (Relative (pos 1)) some) tt, p)
 
-  pub rows_sent : (pen : Attributes) (rows : List Row) → All IsSpelledRow rows → Sent (rows_painted pen rows)
-  rows_sent pen [] p = tt
-  rows_sent pen (row ∷ below) p =
+  pub rows_encoded : (pen : Attributes) (rows : List Row) → All IsSpelledRow rows → Encoded (rows_painted pen rows)
+  rows_encoded pen [] p = tt
+  rows_encoded pen (row ∷ below) p =
       let below_too = go_with_blanks (background_at_end (row_cells row)) below in
       let own = row_painted pen (row_cells row) below_too in
-      let first = row_sent pen (row_cells row) below_too (visible_spelled 0 row (All-head IsSpelledRow row below p)) in
-      let rest = next_sent (rows_painted (pen_left pen own) below) (rows_sent (pen_left pen own) below (All-tail IsSpelledRow row below p)) in
-      cond_both below_too own (own ++ in_next_row (rows_painted (pen_left pen own) below)) Sent (λ e. first) (λ e. spellings_append width tall own (in_next_row (rows_painted (pen_left pen own) below)) first rest)
+      let first = row_encoded pen (row_cells row) below_too (visible_spelled 0 row (All-head IsSpelledRow row below p)) in
+      let rest = next_encoded (rows_painted (pen_left pen own) below) (rows_encoded (pen_left pen own) below (All-tail IsSpelledRow row below p)) in
+      cond_both below_too own (own ++ in_next_row (rows_painted (pen_left pen own) below)) Encoded (λ e. first) (λ e. encodings_append width tall own (in_next_row (rows_painted (pen_left pen own) below)) first rest)
 
-  title_sent : (title : List ℕ) → HaveSpellings width tall (Title title ∷ []) → Sent (title_due title)
-  title_sent [] h = tt
-  title_sent (byte ∷ title) h = h
+  title_encoded : (title : List ℕ) → HaveEncodings width tall (Title title ∷ []) → Encoded (title_due title)
+  title_encoded [] h = tt
+  title_encoded (byte ∷ title) h = h
 
--- ---- but for the place of a pending wrap and the cursor's shape
+-- ---- except the position of a pending wrap and the cursor's shape
 
-rest_append : (s : Screen) (xs ys : List ChangeValue) → HaveOtherSpellings s xs → HaveOtherSpellings s ys → HaveOtherSpellings s (xs ++ ys)
+rest_append : (s : Screen) (xs ys : List ChangeValue) → HaveOtherEncodings s xs → HaveOtherEncodings s ys → HaveOtherEncodings s (xs ++ ys)
 rest_append s [] ys p q = q
 rest_append s (x ∷ xs) ys p q = (p.0, rest_append s xs ys p.1 q)
 
-all_rest : (s : Screen) (xs : List ChangeValue) → HaveSpellings s.width (height s) xs → HaveOtherSpellings s xs
+all_rest : (s : Screen) (xs : List ChangeValue) → HaveEncodings s.width (height s) xs → HaveOtherEncodings s xs
 all_rest s [] p = tt
 all_rest s (x ∷ xs) p = (inl p.0, all_rest s xs p.1)
 
@@ -151,51 +151,51 @@ all_rest s (x ∷ xs) p = (inl p.0, all_rest s xs p.1)
 abbrev prefix_of : Display → List ChangeValue
 prefix_of d = (CursorVisibility Hidden ∷ ClearScreen attribute.Default ∷ []) ++ title_due d.screen.title ++ rows_painted plain d.screen.rows
 
-prefix_sent : (d : Display) → IsDisplay d → IsSpelledScreen d.screen → HaveSpellings d.screen.width (height d.screen) (prefix_of d)
-prefix_sent d h p =
+prefix_encoded : (d : Display) → IsDisplay d → IsSpelledScreen d.screen → HaveEncodings d.screen.width (height d.screen) (prefix_of d)
+prefix_encoded d h p =
     let w = d.screen.width in
     let n = height d.screen in
     let begin = CursorVisibility Hidden ∷ ClearScreen attribute.Default ∷ [] in
-    spellings_append w n (begin ++ title_due d.screen.title) (rows_painted plain d.screen.rows)
-    (spellings_append w n begin (title_due d.screen.title)
-    (has_spelling w n (CursorVisibility Hidden) tt tt tt, (has_spelling w n (ClearScreen attribute.Default) tt tt tt, tt))
-    (title_sent w n h.lawful.wide_enough d.screen.title (has_spelling w n (Title d.screen.title) p.title tt tt, tt)))
-    (rows_sent w n h.lawful.wide_enough plain d.screen.rows p.rows)
+    encodings_append w n (begin ++ title_due d.screen.title) (rows_painted plain d.screen.rows)
+    (encodings_append w n begin (title_due d.screen.title)
+    (is_encoded w n (CursorVisibility Hidden) tt tt tt, (is_encoded w n (ClearScreen attribute.Default) tt tt tt, tt))
+    (title_encoded w n h.lawful.wide_enough d.screen.title (is_encoded w n (Title d.screen.title) p.title tt tt, tt)))
+    (rows_encoded w n h.lawful.wide_enough plain d.screen.rows p.rows)
 
-pub placed_sent : (width tall : ℕ) (painted : Bool) (column row : ℕ) → column < width → HaveSpellings width tall (cursor_placed painted column row)
-placed_sent width tall painted column row h =
-    cond_both (not painted && (column == 0 && row == 0)) _ _ (HaveSpellings width tall) (λ e. tt)
-    (λ e. (has_spelling width tall (CursorPosition (Absolute column) (Absolute row)) tt (coordinate_some width tall column (Absolute row) h) tt, tt))
+pub placed_encoded : (width tall : ℕ) (painted : Bool) (column row : ℕ) → column < width → HaveEncodings width tall (cursor_placed painted column row)
+placed_encoded width tall painted column row h =
+    cond_both (not painted && (column == 0 && row == 0)) _ _ (HaveEncodings width tall) (λ e. tt)
+    (λ e. (is_encoded width tall (CursorPosition (Absolute column) (Absolute row)) tt (coordinate_some width tall column (Absolute row) h) tt, tt))
 
-pub shown_sent : (width tall : ℕ) (visible : Bool) → HaveSpellings width tall (cursor_shown visible None)
-shown_sent width tall true = (has_spelling width tall (CursorVisibility Visible) tt tt tt, tt)
-shown_sent width tall false = tt
+pub shown_encoded : (width tall : ℕ) (visible : Bool) → HaveEncodings width tall (cursor_shown visible None)
+shown_encoded width tall true = (is_encoded width tall (CursorVisibility Visible) tt tt tt, tt)
+shown_encoded width tall false = tt
 
-pub repaint_sent : (d : Display) → IsDisplay d → IsSpelledScreen d.screen → d.screen.column < d.screen.width → d.shape ≡ None → HaveSpellings d.screen.width (height d.screen) (repaint d)
-repaint_sent d h p c e =
+pub repaint_encoded : (d : Display) → IsDisplay d → IsSpelledScreen d.screen → d.screen.column < d.screen.width → d.shape ≡ None → HaveEncodings d.screen.width (height d.screen) (repaint d)
+repaint_encoded d h p c e =
     let s = d.screen in
     let painted = rows_painted plain s.rows in
     let placed = cursor_placed (are_some painted) s.column s.row in
     let due = attributes_due (pen_left plain painted) s.pen in
-    spellings_append s.width (height s) (prefix_of d ++ placed ++ due) (cursor_shown s.visible d.shape)
-    (spellings_append s.width (height s) (prefix_of d ++ placed) due
-    (spellings_append s.width (height s) (prefix_of d) placed (prefix_sent d h p) (placed_sent s.width (height s) (are_some painted) s.column s.row c))
-    (due_sent s.width (height s) h.lawful.wide_enough (pen_left plain painted) s.pen p.pen))
-    (subst (λ shape. HaveSpellings s.width (height s) (cursor_shown s.visible shape)) (sym e) (shown_sent s.width (height s) s.visible))
+    encodings_append s.width (height s) (prefix_of d ++ placed ++ due) (cursor_shown s.visible d.shape)
+    (encodings_append s.width (height s) (prefix_of d ++ placed) due
+    (encodings_append s.width (height s) (prefix_of d) placed (prefix_encoded d h p) (placed_encoded s.width (height s) (are_some painted) s.column s.row c))
+    (due_encoded s.width (height s) h.lawful.wide_enough (pen_left plain painted) s.pen p.pen))
+    (subst (λ shape. HaveEncodings s.width (height s) (cursor_shown s.visible shape)) (sym e) (shown_encoded s.width (height s) s.visible))
 
-position_or : (s : Screen) (painted : Bool) → IsScreen s → HaveOtherSpellings s (cursor_placed painted s.column s.row)
-position_or s painted h = cond_both (not painted && (s.column == 0 && s.row == 0)) _ _ (HaveOtherSpellings s) (λ e. tt) (λ e. (either (order s.column s.width), tt))
+position_or : (s : Screen) (painted : Bool) → IsScreen s → HaveOtherEncodings s (cursor_placed painted s.column s.row)
+position_or s painted h = cond_both (not painted && (s.column == 0 && s.row == 0)) _ _ (HaveOtherEncodings s) (λ e. tt) (λ e. (either (order s.column s.width), tt))
   where
-    either : (s.column < s.width) ⊎ (s.width ≤ s.column) → HasSpelling s.width (height s) (CursorPosition (Absolute s.column) (Absolute s.row)) ⊎ IsLeftOut s (CursorPosition (Absolute s.column) (Absolute s.row))
-    either (inl l) = inl (has_spelling s.width (height s) (CursorPosition (Absolute s.column) (Absolute s.row)) tt (coordinate_some s.width (height s) s.column (Absolute s.row) l) tt)
+    either : (s.column < s.width) ⊎ (s.width ≤ s.column) → HasEncoding s.width (height s) (CursorPosition (Absolute s.column) (Absolute s.row)) ⊎ IsLeftOut s (CursorPosition (Absolute s.column) (Absolute s.row))
+    either (inl l) = inl (is_encoded s.width (height s) (CursorPosition (Absolute s.column) (Absolute s.row)) tt (coordinate_some s.width (height s) s.column (Absolute s.row) l) tt)
     either (inr l) = let k = h.column_in in inr (inl (omega arith, refl))
 
-shape_or : (s : Screen) (visible : Bool) (shape : Option Shape) → HaveOtherSpellings s (cursor_shown visible shape)
-shape_or s true None = (inl (has_spelling s.width (height s) (CursorVisibility Visible) tt tt tt), tt)
-shape_or s true (Some shape) = (inl (has_spelling s.width (height s) (CursorVisibility Visible) tt tt tt), (inr (inr (shape, refl)), tt))
+shape_or : (s : Screen) (visible : Bool) (shape : Option Shape) → HaveOtherEncodings s (cursor_shown visible shape)
+shape_or s true None = (inl (is_encoded s.width (height s) (CursorVisibility Visible) tt tt tt), tt)
+shape_or s true (Some shape) = (inl (is_encoded s.width (height s) (CursorVisibility Visible) tt tt tt), (inr (inr (shape, refl)), tt))
 shape_or s false shape = tt
 
-pub repaint_rest : (d : Display) → IsDisplay d → IsSpelledScreen d.screen → HaveOtherSpellings d.screen (repaint d)
+pub repaint_rest : (d : Display) → IsDisplay d → IsSpelledScreen d.screen → HaveOtherEncodings d.screen (repaint d)
 repaint_rest d h p =
     let s = d.screen in
     let painted = rows_painted plain s.rows in
@@ -203,6 +203,6 @@ repaint_rest d h p =
     let due = attributes_due (pen_left plain painted) s.pen in
     rest_append s (prefix_of d ++ placed ++ due) (cursor_shown s.visible d.shape)
     (rest_append s (prefix_of d ++ placed) due
-    (rest_append s (prefix_of d) placed (all_rest s (prefix_of d) (prefix_sent d h p)) (position_or s (are_some painted) h.lawful))
-    (all_rest s due (due_sent s.width (height s) h.lawful.wide_enough (pen_left plain painted) s.pen p.pen)))
+    (rest_append s (prefix_of d) placed (all_rest s (prefix_of d) (prefix_encoded d h p)) (position_or s (are_some painted) h.lawful))
+    (all_rest s due (due_encoded s.width (height s) h.lawful.wide_enough (pen_left plain painted) s.pen p.pen)))
     (shape_or s s.visible d.shape)

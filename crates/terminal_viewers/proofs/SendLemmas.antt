@@ -11,11 +11,11 @@ use Rattle.screen_effects.specs.Display.{Display, IsDisplay}
 use Rattle.screen_effects.specs.Effect.{is_visible}
 use Rattle.terminal_viewers.proofs.PatchSpellLemmas.{patch_has}
 use Rattle.terminal_viewers.specs.Patch.{patch_changes, patch_of, position_and_pen}
-use Rattle.terminal_render.specs.Spelling.{HasSpelling, HaveSpellings, IsSpelledScreen}
+use Rattle.terminal_render.specs.Spelling.{HasEncoding, HaveEncodings, IsSpelledScreen}
 use Rattle.terminal_table.specs.Changes.{visibility}
 use Rattle.terminal_viewers.specs.Encoding.{encoded_text, encoded_texts}
 use Rattle.terminal_viewers.specs.Update.{bytes_of}
-use Rattle.terminal_viewers.proofs.EncodedLemmas.{all_are_sent, spellings_after, spellings_prefix, texts_are}
+use Rattle.terminal_viewers.proofs.EncodedLemmas.{all_are_encoded, encodings_after, encodings_prefix, texts_are}
 use Rattle.terminal_viewers.proofs.UpdateLemmas.{on_display}
 
 -- a cursor that is visible or not
@@ -25,33 +25,33 @@ visibility_is Hidden visible e = ap visibility e
 
 -- the changes of a patch from what one display shows to what another shows
 pub spelled : (shown d : Display) → IsDisplay shown → IsDisplay d → shown.screen.width ≡ d.screen.width → height shown.screen ≡ height d.screen → IsSpelledScreen d.screen
-    → HaveSpellings d.screen.width (height d.screen) (patch_changes shown.screen d.screen)
+    → HaveEncodings d.screen.width (height d.screen) (patch_changes shown.screen d.screen)
 spelled shown d g h wide tall p = patch_has shown.screen d.screen (on_display shown g) (on_display d h) wide tall p
 
-module _ (old new : Screen) (width tall : ℕ) (w : width ≡ new.width) (t : tall ≡ height new) (h : HaveSpellings new.width (height new) (patch_changes old new)) where
+module _ (old new : Screen) (width tall : ℕ) (w : width ≡ new.width) (t : tall ≡ height new) (h : HaveEncodings new.width (height new) (patch_changes old new)) where
   abbrev cells : List ChangeValue
   cells = difference (screen_fresh old new)
 
   abbrev seen : ChangeValue
   seen = CursorVisibility (visibility new.visible)
 
-  here : HaveSpellings width tall (patch_changes old new)
-  here = subst (λ n. HaveSpellings n tall (patch_changes old new)) (sym w) (subst (λ n. HaveSpellings new.width n (patch_changes old new)) (sym t) h)
+  here : HaveEncodings width tall (patch_changes old new)
+  here = subst (λ n. HaveEncodings n tall (patch_changes old new)) (sym w) (subst (λ n. HaveEncodings new.width n (patch_changes old new)) (sym t) h)
 
-  pub title_has : HasSpelling width tall (Title new.title)
+  pub title_has : HasEncoding width tall (Title new.title)
   title_has = here.0
 
-  prefix : HaveSpellings width tall (cells ++ position_and_pen new)
-  prefix = spellings_prefix width tall (cells ++ position_and_pen new) (seen ∷ []) here.1
+  prefix : HaveEncodings width tall (cells ++ position_and_pen new)
+  prefix = encodings_prefix width tall (cells ++ position_and_pen new) (seen ∷ []) here.1
 
-  pub cells_have : HaveSpellings width tall cells
-  cells_have = spellings_prefix width tall cells (position_and_pen new) prefix
+  pub cells_have : HaveEncodings width tall cells
+  cells_have = encodings_prefix width tall cells (position_and_pen new) prefix
 
-  pub position_has : HaveSpellings width tall (position_and_pen new)
-  position_has = spellings_after width tall cells (position_and_pen new) prefix
+  pub position_has : HaveEncodings width tall (position_and_pen new)
+  position_has = encodings_after width tall cells (position_and_pen new) prefix
 
-  pub seen_has : HasSpelling width tall seen
-  seen_has = (spellings_after width tall (cells ++ position_and_pen new) (seen ∷ []) here.1).0
+  pub seen_has : HasEncoding width tall seen
+  seen_has = (encodings_after width tall (cells ++ position_and_pen new) (seen ∷ []) here.1).0
 
   abbrev text : ChangeValue → List ℕ
   text change = encoded_text width tall change
@@ -60,9 +60,9 @@ module _ (old new : Screen) (width tall : ℕ) (w : width ≡ new.width) (t : ta
   sent changes = encoded_texts width tall changes
 
   -- the bytes after each part
-  pub patch_sent : (start titled drawn placed made : List ℕ) → start ≡ [] → titled ≡ start ++ text (Title new.title) → drawn ≡ titled ++ sent cells → placed ≡ drawn ++ sent (position_and_pen new) → made ≡ placed ++ text seen
+  pub patch_encoded : (start titled drawn placed made : List ℕ) → start ≡ [] → titled ≡ start ++ text (Title new.title) → drawn ≡ titled ++ sent cells → placed ≡ drawn ++ sent (position_and_pen new) → made ≡ placed ++ text seen
       → made ≡ patch_of old new
-  patch_sent start titled drawn placed made none a b c d =
+  patch_encoded start titled drawn placed made none a b c d =
       d
       ∙ ap (λ bytes. bytes ++ text seen) (c ∙ ap (λ bytes. bytes ++ sent (position_and_pen new)) (b ∙ ap (λ bytes. bytes ++ sent cells) (a ∙ ap (λ bytes. bytes ++ text (Title new.title)) none)))
       ∙ ap (λ bytes. bytes ++ text seen) (append_assoc (text (Title new.title)) (sent cells) (sent (position_and_pen new)))
@@ -71,4 +71,4 @@ module _ (old new : Screen) (width tall : ℕ) (w : width ≡ new.width) (t : ta
       ((λ i. sym (flat_map-append text cells (position_and_pen new)) i ++ sym (append-nil (text seen)) i) ∙ sym (flat_map-append text (cells ++ position_and_pen new) (seen ∷ [])))
       ∙ (λ i. encoded_texts (w i) (t i) (patch_changes old new))
       ∙ sym (texts_are new.width (height new) (patch_changes old new))
-      ∙ sym (ap bytes_of (all_are_sent new.width (height new) (patch_changes old new) h))
+      ∙ sym (ap bytes_of (all_are_encoded new.width (height new) (patch_changes old new) h))

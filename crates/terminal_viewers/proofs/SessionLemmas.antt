@@ -34,7 +34,7 @@ module _ (width_of : List ℕ → ℕ) (narrow : width_of space ≡ 1) where
     tall = subst (λ n. n < 2 ^ 32) (sym (new_height width tall)) small;
     sound = new_sound width_of narrow width tall;
     spelled = new_spelled width tall;
-    spellings = tt;
+    encodings = tt;
     counted = omega arith;
   }
 

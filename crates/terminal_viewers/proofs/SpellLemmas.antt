@@ -1,4 +1,4 @@
--- The changes of an update have a spelling.
+-- The changes of an update have an encoding.
 use Rattle.std.proofs.Common.{◌≡◌, ℕ, ◌+◌, ◌<◌, ◌≤◌, inl, List, [], ◌∷◌, ◌++◌, length, sym, subst, arith}
 use Rattle.std.specs.Prelude.{◌==◌, ⊤, IfSome, Option, Some, None, fold}
 use Rattle.std.specs.List.{flat_map}
@@ -17,12 +17,12 @@ use Rattle.screen_log.specs.LogSteps.{Sized}
 use Rattle.screen_effects.specs.Display.{IsDisplay}
 use Rattle.screen_effects.specs.Effect.{cursor_row}
 use Rattle.screen_repaint.specs.Repaint.{are_some, cursor_shown, pen_left}
-use Rattle.terminal_render.specs.Spelling.{HaveSpellings, IsSpelledPen, IsSpelledRow, IsSpelledRun, IsSpelledScreen}
-use Rattle.terminal_render.proofs.ChangeLemmas.{has_spelling, coordinate_some, spellings_append}
+use Rattle.terminal_render.specs.Spelling.{HaveEncodings, IsSpelledPen, IsSpelledRow, IsSpelledRun, IsSpelledScreen}
+use Rattle.terminal_render.proofs.ChangeLemmas.{is_encoded, coordinate_some, encodings_append}
 use Rattle.terminal_render.proofs.LogLemmas.{due_has}
-use Rattle.terminal_viewers.proofs.RepaintLemmas.{due_sent, placed_sent, rows_sent, shown_sent}
-use Rattle.terminal_viewers.specs.Update.{display_on, due_or, last_cell, painted_anew, as_sent, update_changes, written_again}
-use Rattle.terminal_viewers.proofs.PaintLemmas.{due_of, prefix_of, painted_rows, position_of, sent_here, sent_is, sent_there}
+use Rattle.terminal_viewers.proofs.RepaintLemmas.{due_encoded, placed_encoded, rows_encoded, shown_encoded}
+use Rattle.terminal_viewers.specs.Update.{display_on, due_or, last_cell, painted_anew, as_encoded, update_changes, written_again}
+use Rattle.terminal_viewers.proofs.PaintLemmas.{due_of, prefix_of, painted_rows, position_of, encoded_here, encoded_is, encoded_there}
 
 -- ---- the last cell of a row
 
@@ -37,52 +37,52 @@ last_from bound at (Narrow text attributes ∷ row) start h p q = last_from boun
 last_from bound at (LeftHalf text attributes ∷ row) start h p q = last_from bound (at + 1) row (Some (visible_at at text 2 attributes)) (omega (arith, h)) p.2 (p.0, p.1, omega (arith, h))
 last_from bound at (RightHalf attributes ∷ row) start h p q = last_from bound (at + 1) row start (omega (arith, h)) p.1 q
 
-written_sent : (s : Screen) → IsSpelledScreen s → (o : Option VisibleCell) → IsSpelledCell s.width o → HaveSpellings s.width (height s) (written_again s o)
-written_sent s p None q = tt
-written_sent s p (Some v) q =
+written_encoded : (s : Screen) → IsSpelledScreen s → (o : Option VisibleCell) → IsSpelledCell s.width o → HaveEncodings s.width (height s) (written_again s o)
+written_encoded s p None q = tt
+written_encoded s p (Some v) q =
     let w = s.width in
     let n = height s in (
-      has_spelling w n (CursorPosition (Absolute v.column) (Absolute s.row)) tt (coordinate_some w n v.column (Absolute s.row) q.2) tt,
-      (has_spelling w n (AllAttributes v.cell.attributes) q.1 tt tt, (has_spelling w n (Text v.cell.text) q.0.spelled tt (inl q.0.printed), (has_spelling w n (AllAttributes s.pen) p.pen tt tt, tt))),
+      is_encoded w n (CursorPosition (Absolute v.column) (Absolute s.row)) tt (coordinate_some w n v.column (Absolute s.row) q.2) tt,
+      (is_encoded w n (AllAttributes v.cell.attributes) q.1 tt tt, (is_encoded w n (Text v.cell.text) q.0.spelled tt (inl q.0.printed), (is_encoded w n (AllAttributes s.pen) p.pen tt tt, tt))),
     )
 
 -- ---- the screen painted anew
 
-position_sent : (s : Screen) → IsScreen s → IsSpelledScreen s → HaveSpellings s.width (height s) (flat_map (as_sent s) (position_of s))
-position_sent s h p =
+position_encoded : (s : Screen) → IsScreen s → IsSpelledScreen s → HaveEncodings s.width (height s) (flat_map (as_encoded s) (position_of s))
+position_encoded s h p =
     by_test (s.column == s.width)
     (λ e.
     let row : Row = cursor_row s in
     let even : length row ≡ s.width = h.even s.row [] h.row_in in
-    subst (HaveSpellings s.width (height s)) (sym (sent_there s h.wide_enough e))
-    (written_sent s p (last_cell row) (last_from s.width 0 row None (omega (arith, even)) (p.rows s.row [] h.row_in) tt)))
+    subst (HaveEncodings s.width (height s)) (sym (encoded_there s h.wide_enough e))
+    (written_encoded s p (last_cell row) (last_from s.width 0 row None (omega (arith, even)) (p.rows s.row [] h.row_in) tt)))
     (λ e.
     let in_columns = h.column_in in
     let before : s.column < s.width = grind (arith, nat_tests) in
-    subst (HaveSpellings s.width (height s)) (sym (sent_here s e)) (placed_sent s.width (height s) (are_some (painted_rows s)) s.column s.row before))
+    subst (HaveEncodings s.width (height s)) (sym (encoded_here s e)) (placed_encoded s.width (height s) (are_some (painted_rows s)) s.column s.row before))
 
-pub painted_has : (s : Screen) → IsDisplay (display_on s) → IsSpelledScreen s → HaveSpellings s.width (height s) (painted_anew s)
+pub painted_has : (s : Screen) → IsDisplay (display_on s) → IsSpelledScreen s → HaveEncodings s.width (height s) (painted_anew s)
 painted_has s d p =
     let w = s.width in
     let n = height s in
     let h : IsScreen s = d.lawful in
-    let position : List ChangeValue = flat_map (as_sent s) (position_of s) in
-    let begin : HaveSpellings w n ((CursorVisibility Hidden ∷ ClearScreen attribute.Default ∷ []) ++ (Title s.title ∷ [])) =
-    (has_spelling w n (CursorVisibility Hidden) tt tt tt, (has_spelling w n (ClearScreen attribute.Default) tt tt tt, (has_spelling w n (Title s.title) p.title tt tt, tt))) in
-    let prefix : HaveSpellings w n (prefix_of s) =
-    spellings_append w n ((CursorVisibility Hidden ∷ ClearScreen attribute.Default ∷ []) ++ (Title s.title ∷ [])) (painted_rows s) begin (rows_sent w n h.wide_enough plain s.rows p.rows) in
-    subst (HaveSpellings w n) (sym (sent_is s h.wide_enough))
-    (spellings_append w n (prefix_of s ++ position ++ due_of s) (cursor_shown s.visible None)
-    (spellings_append w n (prefix_of s ++ position) (due_of s)
-    (spellings_append w n (prefix_of s) position prefix (position_sent s h p))
-    (due_sent w n h.wide_enough (pen_left plain (painted_rows s)) s.pen p.pen))
-    (shown_sent w n s.visible))
+    let position : List ChangeValue = flat_map (as_encoded s) (position_of s) in
+    let begin : HaveEncodings w n ((CursorVisibility Hidden ∷ ClearScreen attribute.Default ∷ []) ++ (Title s.title ∷ [])) =
+    (is_encoded w n (CursorVisibility Hidden) tt tt tt, (is_encoded w n (ClearScreen attribute.Default) tt tt tt, (is_encoded w n (Title s.title) p.title tt tt, tt))) in
+    let prefix : HaveEncodings w n (prefix_of s) =
+    encodings_append w n ((CursorVisibility Hidden ∷ ClearScreen attribute.Default ∷ []) ++ (Title s.title ∷ [])) (painted_rows s) begin (rows_encoded w n h.wide_enough plain s.rows p.rows) in
+    subst (HaveEncodings w n) (sym (encoded_is s h.wide_enough))
+    (encodings_append w n (prefix_of s ++ position ++ due_of s) (cursor_shown s.visible None)
+    (encodings_append w n (prefix_of s ++ position) (due_of s)
+    (encodings_append w n (prefix_of s) position prefix (position_encoded s h p))
+    (due_encoded w n h.wide_enough (pen_left plain (painted_rows s)) s.pen p.pen))
+    (shown_encoded w n s.visible))
 
 -- ---- an update
 
-due_or_has : (w n : ℕ) (painted : List ChangeValue) (o : Option (List ChangeValue)) → HaveSpellings w n painted → IfSome o (HaveSpellings w n) → HaveSpellings w n (due_or painted o)
+due_or_has : (w n : ℕ) (painted : List ChangeValue) (o : Option (List ChangeValue)) → HaveEncodings w n painted → IfSome o (HaveEncodings w n) → HaveEncodings w n (due_or painted o)
 due_or_has w n painted None p q = p
 due_or_has w n painted (Some changes) p q = q
 
-pub update_has : (s : Screen) (log : Sized) (number : ℕ) → IsDisplay (display_on s) → IsSpelledScreen s → HaveSpellings s.width (height s) log.log.entries → HaveSpellings s.width (height s) (update_changes s log number)
+pub update_has : (s : Screen) (log : Sized) (number : ℕ) → IsDisplay (display_on s) → IsSpelledScreen s → HaveEncodings s.width (height s) log.log.entries → HaveEncodings s.width (height s) (update_changes s log number)
 update_has s log number d p kept = due_or_has s.width (height s) (painted_anew s) (due log.most log.log number) (painted_has s d p) (due_has s.width (height s) log.most log.log number kept)

@@ -14,7 +14,7 @@ use Rattle.screen_effects.specs.Effect.{replay}
 use Rattle.screen_effects.specs.WrittenCells.{IsSoundDisplay}
 use Rattle.terminal_render.specs.Effects.{IsReady}
 use Rattle.terminal_render.specs.Lists.{all_rendered, ListTextsHaveTheEffect, ListTextsLeaveIdle}
-use Rattle.terminal_render.specs.Spelling.{HaveSpellings, IsSpelledScreen}
+use Rattle.terminal_render.specs.Spelling.{HaveEncodings, IsSpelledScreen}
 use Rattle.terminal_render.proofs.LogLemmas.{all_some}
 use Rattle.terminal_render.proofs.ViewLemmas.{display_on_is}
 use Rattle.terminal_table.specs.Alone.{IsIdle}
@@ -31,14 +31,14 @@ abbrev pub UpdatesPaintTheScreen : Type 0
 UpdatesPaintTheScreen = (width_of : List ℕ → ℕ) (other : Display) (screen : Screen) → width_of space ≡ 1 → IsDisplay (display_on screen) → IsSoundDisplay width_of (display_on screen) → IsDisplay other
     → other.screen.width ≡ screen.width → length other.screen.rows ≡ length screen.rows → (replay width_of other (painted_anew screen)).screen ≡ screen
 
--- the changes of an update have a spelling
-abbrev pub UpdatesHaveSpellings : Type 0
-UpdatesHaveSpellings = (screen : Screen) (log : Sized) (number : ℕ) → IsDisplay (display_on screen) → IsSpelledScreen screen → HaveSpellings screen.width (height screen) log.log.entries
-    → HaveSpellings screen.width (height screen) (update_changes screen log number)
+-- the changes of an update have an encoding
+abbrev pub UpdatesHaveEncodings : Type 0
+UpdatesHaveEncodings = (screen : Screen) (log : Sized) (number : ℕ) → IsDisplay (display_on screen) → IsSpelledScreen screen → HaveEncodings screen.width (height screen) log.log.entries
+    → HaveEncodings screen.width (height screen) (update_changes screen log number)
 
 -- what is sent for such changes reads back
 abbrev pub SpelledChangesAreWritable : Type 0
-SpelledChangesAreWritable = (width height : ℕ) (changes : List ChangeValue) (actions : List StreamAction) → 0 < width → width < 2 ^ 32 → 0 < height → height < 2 ^ 32 → HaveSpellings width height changes
+SpelledChangesAreWritable = (width height : ℕ) (changes : List ChangeValue) (actions : List StreamAction) → 0 < width → width < 2 ^ 32 → 0 < height → height < 2 ^ 32 → HaveEncodings width height changes
     → all_rendered changes width height ≡ Some actions → IsWritable actions
 
 -- ---- changes that lead to a screen
@@ -48,14 +48,14 @@ there : {A : Type 0} (found : Option A) → found ≢ None → (x : A) × (found
 there None h = absurd (h refl)
 there (Some x) h = (x, refl)
 
--- Changes that lead a viewer to a screen of its size: it can be sent changes, nothing is unfinished there, and they have a spelling.
+-- Changes that lead a viewer to a screen of its size: it can be sent changes, nothing is unfinished there, and they have an encoding.
 pub record CanFollow (width_of : List ℕ → ℕ) (viewer : View) (screen : Screen) (changes : List ChangeValue) : Type 0 where
   pub ready : IsReady viewer
   pub idle : IsIdle viewer
   pub display : IsDisplay (display_on screen)
   pub wide : viewer.state.screen.width ≡ screen.width
   pub tall : height viewer.state.screen ≡ height screen
-  pub spelled : HaveSpellings screen.width (height screen) changes
+  pub spelled : HaveEncodings screen.width (height screen) changes
   pub leads : replayed_on width_of viewer.state.screen changes ≡ screen
 
 -- their bytes
@@ -63,7 +63,7 @@ abbrev pub bytes_for : Screen → List ChangeValue → List ℕ
 bytes_for screen changes = bytes_of (all_rendered changes screen.width (height screen))
 
 -- what is sent for them
-pub record Sent (viewer : View) (screen : Screen) (changes : List ChangeValue) : Type 0 where
+pub record Encoded (viewer : View) (screen : Screen) (changes : List ChangeValue) : Type 0 where
   pub actions : List StreamAction
   pub rendered : all_rendered changes viewer.state.screen.width (height viewer.state.screen) ≡ Some actions
   pub bytes : bytes_for screen changes ≡ stream_text actions
@@ -73,7 +73,7 @@ some_row : (screen : Screen) → IsDisplay (display_on screen) → 0 < height sc
 some_row screen h = let k = h.lawful.row_in in omega arith
 
 module _ (writes : SpelledChangesAreWritable) (width_of : List ℕ → ℕ) (viewer : View) (screen : Screen) (changes : List ChangeValue) (can : CanFollow width_of viewer screen changes) where
-  pub sent : Sent viewer screen changes
+  pub sent : Encoded viewer screen changes
   sent =
       let found = there (all_rendered changes screen.width (height screen)) (all_some screen.width (height screen) changes can.spelled) in
       record {
@@ -97,7 +97,7 @@ module _ (writes : SpelledChangesAreWritable) (width_of : List ℕ → ℕ) (vie
 
 -- ---- updates do so
 
-module _ (paints : UpdatesPaintTheScreen) (spells : UpdatesHaveSpellings) where
+module _ (paints : UpdatesPaintTheScreen) (spells : UpdatesHaveEncodings) where
   can_follow : (width_of : List ℕ → ℕ) (viewer : View) (screen : Screen) (log : Sized) (number : ℕ) → CanRead width_of viewer screen log number → CanFollow width_of viewer screen (update_changes screen log number)
   can_follow width_of viewer screen log number can = record {
     ready = can.ready;
@@ -105,7 +105,7 @@ module _ (paints : UpdatesPaintTheScreen) (spells : UpdatesHaveSpellings) where
     display = can.display;
     wide = can.shows.wide;
     tall = can.shows.tall;
-    spelled = spells screen log number can.display can.spelled can.spellings;
+    spelled = spells screen log number can.display can.spelled can.encodings;
     leads = due_leads (due log.most log.log number) can.shows.leads;
   }
     where

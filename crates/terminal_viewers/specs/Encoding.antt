@@ -26,7 +26,7 @@ encoded_text width height change = stream_text (encoded_for width height change)
 abbrev pub encoded_texts : ℕ → ℕ → List ChangeValue → List ℕ
 encoded_texts width height changes = flat_map (encoded_text width height) changes
 
--- whether a change leads to the place of a wrap that is pending
+-- whether a change leads to the position of a pending wrap
 abbrev pub is_pending : ℕ → ChangeValue → Bool
 is_pending width (CursorPosition (Absolute column) y) = column == width
 is_pending width _ = false

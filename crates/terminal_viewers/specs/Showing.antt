@@ -5,21 +5,21 @@ use Rattle.cell_base.specs.Screen.{Screen, height}
 use Rattle.screen_effects.specs.WrittenCells.{IsSoundDisplay}
 use Rattle.terminal_viewers.specs.Sessions.{Answer, Turn, Goes, Answers, Forgets, Viewer, Chain, new_chain, round}
 use Rattle.terminal_viewers.specs.Sessions.{session, steps_of, with_taken}
-use Rattle.terminal_render.specs.Spelling.{HaveSpellings, IsSpelledView}
+use Rattle.terminal_render.specs.Spelling.{HaveEncodings, IsSpelledView}
 use Rattle.terminal_table.specs.History.{Step, Piece, Look, Resize, Forget}
 use Rattle.terminal_table.specs.Turns.{IsView}
 use Rattle.terminal_viewers.specs.Update.{display_on}
 use Rattle.terminal_viewers.specs.Updates.{Standing, standing_after}
 
 -- The standings of a terminal that answers viewers: its state is lawful, of less than 2^32 columns and rows; its cells
--- are sound; they, its run and the changes that its log keeps have a spelling; and each of these changes has a number.
+-- are sound; they, its run and the changes that its log keeps have an encoding; and each of these changes has a number.
 pub record CanAnswer (width_of : List ℕ → ℕ) (s : Standing) : Type 0 where
   pub lawful : IsView s.view
   pub wide : s.view.state.screen.width < 2 ^ 32
   pub tall : height s.view.state.screen < 2 ^ 32
   pub sound : IsSoundDisplay width_of (display_on s.view.state.screen)
   pub spelled : IsSpelledView s.view
-  pub spellings : HaveSpellings s.view.state.screen.width (height s.view.state.screen) s.log.log.entries
+  pub encodings : HaveEncodings s.view.state.screen.width (height s.view.state.screen) s.log.log.entries
   pub counted : length s.log.log.entries ≤ s.log.log.number
 
 -- each width and height is from 1 to 2^32 - 1

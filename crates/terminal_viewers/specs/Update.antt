@@ -20,7 +20,7 @@ use Rattle.terminal_render.specs.Lists.{all_rendered}
 abbrev pub display_on : Screen → Display
 display_on screen = record { screen = screen; sizes = replicate (height screen) SingleWidthLine; shape = None }
 
--- ---- the place of a wrap that is pending
+-- ---- the position of a pending wrap
 
 -- the last visible cell of a row, if there is one
 abbrev pub last_cell : Row → Option VisibleCell
@@ -33,19 +33,19 @@ written_again screen (Some v) =
     CursorPosition (Absolute v.column) (Absolute screen.row) ∷ AllAttributes v.cell.attributes ∷ Text v.cell.text
     ∷ AllAttributes screen.pen ∷ []
 
--- A change of a repaint as it can be sent: nothing but a character leads after the last column, so for the place of a
--- wrap that is pending the last visible cell of the cursor's row is written once more.
-abbrev pub as_sent : Screen → ChangeValue → List ChangeValue
-as_sent screen (CursorPosition (Absolute column) y) =
+-- A change of a repaint as it can be encoded: only a character leads past the last column, so for the position of a
+-- pending wrap the last visible cell of the cursor's row is written once more.
+abbrev pub as_encoded : Screen → ChangeValue → List ChangeValue
+as_encoded screen (CursorPosition (Absolute column) y) =
     if column == screen.width then written_again screen (last_cell (cursor_row screen))
     else CursorPosition (Absolute column) y ∷ []
-as_sent screen change = change ∷ []
+as_encoded screen change = change ∷ []
 
 -- ---- an update
 
 -- the screen painted anew, with its one title, also an empty one
 abbrev pub painted_anew : Screen → List ChangeValue
-painted_anew screen = flat_map (as_sent screen) (repaint_with (Title screen.title ∷ []) (display_on screen))
+painted_anew screen = flat_map (as_encoded screen) (repaint_with (Title screen.title ∷ []) (display_on screen))
 
 -- the changes that are due; where none are the screen is painted anew
 abbrev pub due_or : List ChangeValue → Option (List ChangeValue) → List ChangeValue

@@ -10,15 +10,15 @@ use Rattle.terminal_viewers.specs.Update.{update_of}
 
 -- an input in chunks of `every` bytes, of which the first begins with `begun`; the last one is shorter, and empty where
 -- nothing is left for it
-abbrev pub in_pieces : ℕ → List ℕ → List ℕ → List (List ℕ)
-in_pieces every begun [] = begun ∷ []
-in_pieces every begun (byte ∷ input) =
-    if length begun + 1 == every then (begun ++ byte ∷ []) ∷ in_pieces every [] input
-    else in_pieces every (begun ++ byte ∷ []) input
+abbrev pub in_chunks : ℕ → List ℕ → List ℕ → List (List ℕ)
+in_chunks every begun [] = begun ∷ []
+in_chunks every begun (byte ∷ input) =
+    if length begun + 1 == every then (begun ++ byte ∷ []) ∷ in_chunks every [] input
+    else in_chunks every (begun ++ byte ∷ []) input
 
--- each piece, and a look after it
+-- each chunk, and a look after it
 abbrev pub looks : List (List ℕ) → History
-looks pieces = flat_map (λ piece. Piece piece ∷ Look ∷ []) pieces
+looks chunks = flat_map (λ chunk. Piece chunk ∷ Look ∷ []) chunks
 
 -- the standing of a terminal: its view, and its log
 pub record Standing : Type 0 where
@@ -34,18 +34,18 @@ abbrev pub standing_after : (List ℕ → ℕ) → Standing → History → Stan
 standing_after width_of s history =
     record { view = after width_of s.view history; log = log_after width_of s.view s.log history }
 
--- after each piece the update for the number that was given last
+-- after each chunk the update for the number that was given last
 abbrev pub updates_after : (List ℕ → ℕ) → Standing → ℕ → List (List ℕ) → List ℕ
 updates_after width_of s number [] = []
-updates_after width_of s number (piece ∷ pieces) =
-    let next = standing_after width_of s (looks (piece ∷ [])) in
-    update_of next.view.state.screen next.log number ++ updates_after width_of next next.log.log.number pieces
+updates_after width_of s number (chunk ∷ chunks) =
+    let next = standing_after width_of s (looks (chunk ∷ [])) in
+    update_of next.view.state.screen next.log number ++ updates_after width_of next next.log.log.number chunks
 
 -- the updates of an input, joined; a new viewer is at number 0
 abbrev pub updates : (List ℕ → ℕ) → ℕ → ℕ → ℕ → List ℕ → List ℕ
 updates width_of width height every input =
-    updates_after width_of (new_standing width height) 0 (in_pieces every [] input)
+    updates_after width_of (new_standing width height) 0 (in_chunks every [] input)
 
 -- what the terminal shows at the end
 abbrev pub updated : (List ℕ → ℕ) → ℕ → ℕ → ℕ → List ℕ → View
-updated width_of width height every input = after width_of (new_view width height) (looks (in_pieces every [] input))
+updated width_of width height every input = after width_of (new_view width height) (looks (in_chunks every [] input))

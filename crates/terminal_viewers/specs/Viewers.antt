@@ -8,7 +8,7 @@ use Rattle.screen_effects.specs.Display.{IsDisplay}
 use Rattle.screen_effects.specs.Resize.{resized_screen}
 use Rattle.screen_effects.specs.WrittenCells.{IsSoundDisplay}
 use Rattle.terminal_render.specs.Effects.{IsReady}
-use Rattle.terminal_render.specs.Spelling.{HaveSpellings, IsSpelledEvent, IsSpelledScreen, IsSpelledView}
+use Rattle.terminal_render.specs.Spelling.{HaveEncodings, IsSpelledEvent, IsSpelledScreen, IsSpelledView}
 use Rattle.terminal_table.specs.Alone.{IsIdle}
 use Rattle.terminal_table.specs.History.{Event, History, Piece, Look, Resize, Forget}
 use Rattle.terminal_table.specs.Logged.{log_after}
@@ -69,7 +69,7 @@ ScreensShowThemselves =
 -- ---- updates that are read
 
 -- What an update is sent to and of: a viewer that can be sent changes, with nothing unfinished, which shows at a number
--- a screen whose cells are sound; and the cells, and the changes that its log keeps, have a spelling.
+-- a screen whose cells are sound; and the cells, and the changes that its log keeps, have an encoding.
 pub record CanRead (width_of : List ℕ → ℕ) (viewer : View) (screen : Screen) (log : Sized) (number : ℕ) : Type 0 where
   pub narrow : width_of space ≡ 1
   pub ready : IsReady viewer
@@ -77,7 +77,7 @@ pub record CanRead (width_of : List ℕ → ℕ) (viewer : View) (screen : Scree
   pub display : IsDisplay (display_on screen)
   pub sound : IsSoundDisplay width_of (display_on screen)
   pub spelled : IsSpelledScreen screen
-  pub spellings : HaveSpellings screen.width (height screen) log.log.entries
+  pub encodings : HaveEncodings screen.width (height screen) log.log.entries
   pub shows : Shows width_of viewer.state.screen number screen log
 
 -- it then shows the screen, and nothing else of its state is changed

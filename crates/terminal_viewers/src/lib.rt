@@ -1,12 +1,14 @@
-//! What a viewer is sent so that it shows a terminal's screen, and what it makes of that. `update` and `patch` are for
-//! the crate above alone: users call `Terminal::update` and `Terminal::patch` of `terminal`.
+//! The bytes that make a viewer show a terminal's screen, and what the viewer makes of them. `update` and `patch` are
+//! for the crate `terminal` alone: users call `Terminal::update` and `Terminal::patch` of `terminal`.
 //!
-//! - `update`: the changes that are due, or those that paint the screen anew, with the laws in `update_laws`, and what
-//!   is sent for a repaint in `repaint_laws`.
-//! - `patch`: what shows another screen of the same size, with the laws in `patch_laws`.
-//! - `viewers`: what a viewer shows that reads updates.
-//! - `session_laws`: sessions of a terminal and its viewers, which may answer others: each shows what the one that
+//! - `patch`: the bytes that make a viewer of the same size show a screen.
+//! - `patch_laws`: laws of patches: they lead to the screen, and print the fresh cells.
+//! - `repaint_laws`: laws of repaints: their changes have encodings.
+//! - `session_laws`: laws of sessions of a terminal and its viewers, each of which shows what the one that
 //!   answered it showed.
+//! - `update`: the bytes of the changes that are due, or of the whole screen.
+//! - `update_laws`: laws of updates: they paint the screen or hold what is due, and have encodings.
+//! - `viewers`: laws of viewers: what one shows that reads updates.
 #![tactic(auto)]
 
 pub mod patch;

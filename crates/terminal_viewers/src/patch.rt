@@ -1,5 +1,5 @@
-//! The patch. Only `terminal` calls it: it asks for a surface each change of which can be sent, as only a terminal's is
-//! known to be.
+//! The patch: the bytes that make a viewer of the same size show a screen. Only `terminal` calls it: it requires a
+//! surface each change of which has an encoding, and only a terminal's is known to be one.
 ghost use Rattle.std.specs.Prelude.{◌≡◌, ◌++◌, false, length, map, IfOk, OnOk};
 ghost use Rattle.screen_change.specs.ChangeValue.{CursorVisibility};
 ghost use Rattle.screen_change.specs.ValueOf.{value_of};
@@ -8,7 +8,7 @@ ghost use Rattle.screen_difference.specs.Difference.{difference};
 ghost use Rattle.screen_difference.specs.FreshCells.{screen_fresh};
 ghost use Rattle.screen_effects.specs.Display.{IsDisplay};
 ghost use Rattle.terminal_viewers.specs.Patch.{patch_of, position_and_pen};
-ghost use Rattle.terminal_render.specs.Spelling.{HasSpelling, HaveSpellings};
+ghost use Rattle.terminal_render.specs.Spelling.{HasEncoding, HaveEncodings};
 ghost use Rattle.terminal_table.specs.Changes.{visibility};
 ghost use Rattle.terminal_viewers.specs.Encodable.{CanBeEncoded};
 ghost use Rattle.terminal_viewers.specs.Encoding.{encoded_text, encoded_texts};
@@ -43,7 +43,7 @@ fn encode_position_and_pen<W: Widths + Drop>(
 ) -> Result<(), AllocError>
     requires stays { surface.now.is_failed ≡ false }
     requires width { encoder.now.width ≡ (shown_by surface.now).screen.width }
-    requires spelled { HaveSpellings encoder.now.width encoder.now.height
+    requires spelled { HaveEncodings encoder.now.width encoder.now.height
         (position_and_pen (shown_by surface.now).screen) }
     ensures { OnOk result
         (bytes.new.items
@@ -60,13 +60,13 @@ fn encode_position_and_pen<W: Widths + Drop>(
     Ok(())
 }
 
-// Sends whether the cursor is visible.
+// Encodes whether the cursor is visible.
 fn encode_visibility<W: Widths + Drop>(
     encoder: &ViewerEncoder,
     bytes: &mut Vec<u8>,
     surface: &Surface<W>,
 ) -> Result<(), AllocError>
-    requires { HasSpelling encoder.now.width encoder.now.height
+    requires { HasEncoding encoder.now.width encoder.now.height
         (CursorVisibility (visibility (shown_by surface.now).screen.visible)) }
     ensures { OnOk result
         (bytes.new.items

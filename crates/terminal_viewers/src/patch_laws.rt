@@ -1,4 +1,5 @@
-//! Laws of patches: each is the contract of a function that does nothing.
+//! Laws of patches: they lead to the screen, and print the fresh cells. Each is the contract of a function that does
+//! nothing.
 ghost use Rattle.std.specs.Prelude.{◌≡◌, ℕ, List, length};
 ghost use Rattle.cell_base.specs.Row.{space};
 ghost use Rattle.cell_base.specs.Screen.{Screen, height};
@@ -7,7 +8,7 @@ ghost use Rattle.screen_effects.specs.WrittenCells.{IsSoundDisplay};
 ghost use Rattle.terminal_viewers.specs.Patch.{patch_changes};
 ghost use Rattle.terminal_viewers.specs.Reading.{PatchesAreShown, PatchesArePlain, PatchesLeaveIdle};
 ghost use Rattle.terminal_viewers.specs.Reading.{PatchesPrintFreshCells};
-ghost use Rattle.terminal_render.specs.Spelling.{HaveSpellings, IsSpelledScreen};
+ghost use Rattle.terminal_render.specs.Spelling.{HaveEncodings, IsSpelledScreen};
 ghost use Rattle.terminal_viewers.specs.Shows.{replayed_on};
 ghost use Rattle.terminal_viewers.specs.Update.{display_on};
 
@@ -15,8 +16,8 @@ use escape_framing::laws::idle_streams;
 use escape_stream::encoding_laws::writable_lists_read_on;
 use screen_difference::laws::{differences_draw_their_cells, differences_show_the_new_side};
 use screen_difference::print_laws::{differences_print_the_fresh_cells, prints_join};
+use terminal_render::encoding_laws::spelled_changes_are_writable;
 use terminal_render::laws::lists_have_the_effect;
-use terminal_render::spelling_laws::spelled_changes_are_writable;
 
 /// A patch from a screen to another one of its size, replayed on the first, leaves the second: its rows, its
 /// cursor with a wrap that may be pending, its visibility, its pen and its title. A space takes one column, and
@@ -31,24 +32,24 @@ pub fn patches_lead_to_the_screen()
     differences_show_the_new_side();
 }
 
-/// Each change of a patch between two screens of one size has a spelling at that size, where the cells, the pen
+/// Each change of a patch between two screens of one size has an encoding at that size, where the cells, the pen
 /// and the title of the second have one.
-pub fn patches_have_spellings()
+pub fn patches_have_encodings()
     ensures { (old : Screen) (new : Screen) → IsDisplay (display_on old) → IsDisplay (display_on new)
         → old.width ≡ new.width → height old ≡ height new → IsSpelledScreen new
-        → HaveSpellings new.width (height new) (patch_changes old new) }
+        → HaveEncodings new.width (height new) (patch_changes old new) }
 {}
 
 /// A viewer of a screen's size that can be sent changes and has nothing unfinished shows the screen once it is
 /// fed the patch from the screen that it shows: its saved cursor and its replies stay, and nothing is unfinished
-/// or held. The screen's cells are sound, and they have a spelling.
+/// or held. The screen's cells are sound, and they have an encoding.
 pub fn viewers_read_patches()
     ensures shown { PatchesAreShown }
     ensures idle { PatchesLeaveIdle }
 {
     lists_have_the_effect();
     spelled_changes_are_writable();
-    patches_have_spellings();
+    patches_have_encodings();
     patches_lead_to_the_screen();
 }
 
@@ -66,7 +67,7 @@ pub fn patches_print_the_fresh_cells()
     idle_streams();
     writable_lists_read_on();
     spelled_changes_are_writable();
-    patches_have_spellings();
+    patches_have_encodings();
     patches_lead_to_the_screen();
     viewers_read_patches();
 }

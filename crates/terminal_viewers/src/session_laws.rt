@@ -1,4 +1,5 @@
-//! Laws of sessions: each is the contract of a function that does nothing.
+//! Laws of sessions of a terminal and its viewers, each of which shows what the one that answered it showed. Each is
+//! the contract of a function that does nothing.
 ghost use Rattle.terminal_viewers.specs.Showing.{AnswersAreShown, RepliesAreSeparate, RoundsAreShown};
 ghost use Rattle.terminal_viewers.specs.Showing.{TerminalsGoTheirWay, ViewersStay};
 

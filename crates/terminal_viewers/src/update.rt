@@ -1,5 +1,5 @@
-//! The update. Only `terminal` and `patch` call this module: it requires a surface each change of which can be
-//! sent, and only a terminal's is known to be one.
+//! The update: the bytes of the changes that are due, or of the whole screen. Only `terminal` and `patch` call this
+//! module: it requires a surface each change of which has an encoding, and only a terminal's is known to be one.
 ghost use Rattle.std.specs.Prelude.{◌≡◌, ◌<◌, ◌^◌, ◌++◌, false, length, map, take, IfOk, OnErr, OnOk};
 ghost use Rattle.std.specs.List.{flat_map};
 ghost use Rattle.std.specs.Option.{option_map};
@@ -11,10 +11,10 @@ ghost use Rattle.cell_views.specs.CellRefView.{shown_by as cell_shown};
 ghost use Rattle.cell_surface.specs.Surface.{shown_by};
 ghost use Rattle.screen_effects.specs.Display.{IsDisplay};
 ghost use Rattle.screen_effects.specs.Effect.{cursor_row};
-ghost use Rattle.terminal_render.specs.Spelling.{HasSpelling, HaveSpellings};
+ghost use Rattle.terminal_render.specs.Spelling.{HasEncoding, HaveEncodings};
 ghost use Rattle.terminal_viewers.specs.Encodable.{CanBeEncoded};
 ghost use Rattle.terminal_viewers.specs.Encoding.{is_pending, encoded_text, encoded_texts};
-ghost use Rattle.terminal_viewers.specs.Update.{last_cell, as_sent, update_changes, update_of, written_again};
+ghost use Rattle.terminal_viewers.specs.Update.{last_cell, as_encoded, update_changes, update_of, written_again};
 
 use cell_base::{CellAttributes, Position, SequenceNo, Widths};
 use cell_line::{CellRef, Line};
@@ -45,7 +45,7 @@ fn cursor_line<W: Widths + Drop>(surface: &Surface<W>) -> &Line
     &surface.screen_lines()[row]
 }
 
-// Whether a change leads to the place of a wrap that is pending.
+// Whether a change leads to the position of a pending wrap.
 fn is_pending(change: &Change, width: usize) -> bool
     ensures { result ≡ is_pending width (value_of change.now) }
 {
@@ -89,9 +89,9 @@ impl ViewerEncoder {
         }
     }
 
-    /// Encodes changes in turn, each of which has a spelling.
+    /// Encodes changes in turn, each of which has an encoding.
     pub fn encode_all(&self, bytes: &mut Vec<u8>, changes: &[Change]) -> Result<(), AllocError>
-        requires { HaveSpellings self.now.width self.now.height (map value_of changes.now) }
+        requires { HaveEncodings self.now.width self.now.height (map value_of changes.now) }
         ensures ok { OnOk result
             (bytes.new.items
             ≡ bytes.old.items ++ encoded_texts self.now.width self.now.height (map value_of changes.now)) }
@@ -102,7 +102,7 @@ impl ViewerEncoder {
 
     /// Encodes a change.
     pub fn encode(&self, bytes: &mut Vec<u8>, change: &Change) -> Result<(), AllocError>
-        requires { HasSpelling self.now.width self.now.height (value_of change.now) }
+        requires { HasEncoding self.now.width self.now.height (value_of change.now) }
         ensures ok { OnOk result
             (bytes.new.items ≡ bytes.old.items ++ encoded_text self.now.width self.now.height (value_of change.now)) }
         ensures refused { OnErr result (bytes.new.items ≡ bytes.old.items) }
@@ -112,7 +112,7 @@ impl ViewerEncoder {
 
     /// Encodes a title.
     pub fn encode_title(&self, bytes: &mut Vec<u8>, title: &str) -> Result<(), AllocError>
-        requires { HasSpelling self.now.width self.now.height (Title title.now) }
+        requires { HasEncoding self.now.width self.now.height (Title title.now) }
         ensures ok { OnOk result
             (bytes.new.items ≡ bytes.old.items ++ encoded_text self.now.width self.now.height (Title title.now)) }
         ensures refused { OnErr result (bytes.new.items ≡ bytes.old.items) }
@@ -123,7 +123,7 @@ impl ViewerEncoder {
 
     // Encodes a text.
     fn encode_text(&self, bytes: &mut Vec<u8>, text: &str) -> Result<(), AllocError>
-        requires { HasSpelling self.now.width self.now.height (Text text.now) }
+        requires { HasEncoding self.now.width self.now.height (Text text.now) }
         ensures ok { OnOk result
             (bytes.new.items ≡ bytes.old.items ++ encoded_text self.now.width self.now.height (Text text.now)) }
         ensures refused { OnErr result (bytes.new.items ≡ bytes.old.items) }
@@ -134,7 +134,7 @@ impl ViewerEncoder {
 
     /// Encodes attributes.
     pub fn encode_pen(&self, bytes: &mut Vec<u8>, pen: &CellAttributes) -> Result<(), AllocError>
-        requires { HasSpelling self.now.width self.now.height (AllAttributes pen.now) }
+        requires { HasEncoding self.now.width self.now.height (AllAttributes pen.now) }
         ensures ok { OnOk result
             (bytes.new.items ≡ bytes.old.items ++ encoded_text self.now.width self.now.height (AllAttributes pen.now)) }
         ensures refused { OnErr result (bytes.new.items ≡ bytes.old.items) }
@@ -150,7 +150,7 @@ impl ViewerEncoder {
         column: usize,
         row: usize,
     ) -> Result<(), AllocError>
-        requires { HasSpelling self.now.width self.now.height
+        requires { HasEncoding self.now.width self.now.height
             (CursorPosition (position.Absolute column) (position.Absolute row)) }
         ensures ok { OnOk result
             (bytes.new.items
@@ -174,7 +174,7 @@ impl ViewerEncoder {
         surface: &Surface<W>,
     ) -> Result<(), AllocError>
         requires stays { surface.now.is_failed ≡ false }
-        requires spelled { HaveSpellings self.now.width self.now.height
+        requires spelled { HaveEncodings self.now.width self.now.height
             (written_again (shown_by surface.now).screen (last_cell (cursor_row (shown_by surface.now).screen))) }
         ensures ok { OnOk result
             (bytes.new.items
@@ -192,14 +192,14 @@ impl ViewerEncoder {
         result
     }
 
-    // Appends what is sent; what was appended before a refusal stays.
+    // Appends the encoding; what was appended before a refusal stays.
     fn append_again<W: Widths + Drop>(
         &self,
         bytes: &mut Vec<u8>,
         surface: &Surface<W>,
     ) -> Result<(), AllocError>
         requires stays { surface.now.is_failed ≡ false }
-        requires spelled { HaveSpellings self.now.width self.now.height
+        requires spelled { HaveEncodings self.now.width self.now.height
             (written_again (shown_by surface.now).screen (last_cell (cursor_row (shown_by surface.now).screen))) }
         ensures ok { OnOk result
             (bytes.new.items
@@ -229,13 +229,13 @@ impl ViewerEncoder {
     ) -> Result<(), AllocError>
         requires stays { surface.now.is_failed ≡ false }
         requires width { self.now.width ≡ (shown_by surface.now).screen.width }
-        requires spelled { HaveSpellings self.now.width self.now.height
-            (as_sent (shown_by surface.now).screen (value_of change.now)) }
+        requires spelled { HaveEncodings self.now.width self.now.height
+            (as_encoded (shown_by surface.now).screen (value_of change.now)) }
         ensures { OnOk result
             (bytes.new.items
             ≡ bytes.old.items
             ++ encoded_texts self.now.width self.now.height
-            (as_sent (shown_by surface.now).screen (value_of change.now))) }
+            (as_encoded (shown_by surface.now).screen (value_of change.now))) }
     {
         if is_pending(change, self.width) {
             return self.encode_again(bytes, surface);
@@ -252,13 +252,13 @@ impl ViewerEncoder {
     ) -> Result<(), AllocError>
         requires stays { surface.now.is_failed ≡ false }
         requires width { self.now.width ≡ (shown_by surface.now).screen.width }
-        requires spelled { HaveSpellings self.now.width self.now.height
-            (flat_map (as_sent (shown_by surface.now).screen) (map value_of changes.now)) }
+        requires spelled { HaveEncodings self.now.width self.now.height
+            (flat_map (as_encoded (shown_by surface.now).screen) (map value_of changes.now)) }
         ensures { OnOk result
             (bytes.new.items
             ≡ bytes.old.items
             ++ encoded_texts self.now.width self.now.height
-            (flat_map (as_sent (shown_by surface.now).screen) (map value_of changes.now))) }
+            (flat_map (as_encoded (shown_by surface.now).screen) (map value_of changes.now))) }
     {
         for change in changes {
             self.encode_painted(bytes, surface, change)?;

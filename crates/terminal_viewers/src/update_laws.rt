@@ -1,4 +1,5 @@
-//! Laws of updates: each is the contract of a function that does nothing.
+//! Laws of updates: they paint the screen or hold what is due, and have encodings. Each is the contract of a function
+//! that does nothing.
 ghost use Rattle.std.specs.Prelude.{◌≡◌, ℕ, ◌+◌, ◌*◌, ◌≤◌, List, [], length, Some, None};
 ghost use Rattle.cell_base.specs.Row.{space};
 ghost use Rattle.cell_base.specs.Screen.{IsScreen, Screen, height};
@@ -8,7 +9,7 @@ ghost use Rattle.screen_log.specs.LogSteps.{Sized};
 ghost use Rattle.screen_effects.specs.Display.{Display, IsDisplay};
 ghost use Rattle.screen_effects.specs.Effect.{replay};
 ghost use Rattle.screen_effects.specs.WrittenCells.{IsSoundDisplay};
-ghost use Rattle.terminal_render.specs.Spelling.{HaveSpellings, IsSpelledScreen};
+ghost use Rattle.terminal_render.specs.Spelling.{HaveEncodings, IsSpelledScreen};
 ghost use Rattle.terminal_viewers.specs.Update.{display_on, painted_anew, update_changes, update_of};
 
 /// Any display of the same size on which the changes that paint a screen anew are replayed shows that
@@ -23,14 +24,14 @@ pub fn updates_paint_the_screen()
         → (replay width_of other (painted_anew screen)).screen ≡ screen }
 {}
 
-/// Each change that paints anew a screen that has a spelling has one at its size, and so has each change of an
+/// Each change that paints anew a screen that has an encoding has one at its size, and so has each change of an
 /// update where those that the log keeps have one.
-pub fn updates_have_spellings()
+pub fn updates_have_encodings()
     ensures painted { (screen : Screen) → IsDisplay (display_on screen) → IsSpelledScreen screen
-        → HaveSpellings screen.width (height screen) (painted_anew screen) }
+        → HaveEncodings screen.width (height screen) (painted_anew screen) }
     ensures update { (screen : Screen) (log : Sized) (number : ℕ) → IsDisplay (display_on screen)
-        → IsSpelledScreen screen → HaveSpellings screen.width (height screen) log.log.entries
-        → HaveSpellings screen.width (height screen) (update_changes screen log number) }
+        → IsSpelledScreen screen → HaveEncodings screen.width (height screen) log.log.entries
+        → HaveEncodings screen.width (height screen) (update_changes screen log number) }
 {}
 
 /// At most 2wh + 2h + 11 changes paint a screen of w columns and h rows anew, and an update has no more,

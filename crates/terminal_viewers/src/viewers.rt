@@ -1,17 +1,17 @@
-//! Laws of viewers: each is the contract of a function that does nothing.
+//! Laws of viewers: what one shows that reads updates. Each is the contract of a function that does nothing.
 ghost use Rattle.terminal_viewers.specs.Viewers.{EventsKeepSound, HistoriesKeepSound, NewViewsAreSound};
 ghost use Rattle.terminal_viewers.specs.Viewers.{ScreensShowThemselves, UpdatesAreShown, UpdatesLeaveIdle};
 ghost use Rattle.terminal_viewers.specs.Viewers.{UpdatesLeaveNewViewersIdle, UpdatesShowTheInput, ViewersGoOnShowing};
 
-use crate::update_laws::{updates_have_spellings, updates_paint_the_screen};
+use crate::update_laws::{updates_have_encodings, updates_paint_the_screen};
 use escape_framing::laws::one_cut;
-use escape_stream::action_laws::actions_of_pieces_join;
+use escape_stream::action_laws::actions_of_chunks_join;
+use terminal_render::encoding_laws::spelled_changes_are_writable;
 use terminal_render::laws::lists_have_the_effect;
-use terminal_render::spelling_laws::spelled_changes_are_writable;
 
 /// Each cell of a terminal's screen has a text that is by itself one cluster (UAX 29), without C0
 /// controls and DEL, and the columns that it takes: so it is on a new screen, and so it stays whatever
-/// comes, where what comes has a spelling. A space takes one column.
+/// comes, where what comes has an encoding. A space takes one column.
 pub fn views_stay_sound()
     ensures new { NewViewsAreSound }
     ensures event { EventsKeepSound }
@@ -34,14 +34,14 @@ pub fn viewers_go_on_showing()
 /// A viewer of a screen's size that shows the screen at a number, can be sent changes and has nothing
 /// unfinished, shows the screen once it is fed the update for that number: its saved cursor and its
 /// replies stay, and nothing is unfinished or held. The screen's cells are sound, and they and the
-/// changes that its log keeps have a spelling.
+/// changes that its log keeps have an encoding.
 pub fn viewers_read_updates()
     ensures shown { UpdatesAreShown }
     ensures idle { UpdatesLeaveIdle }
 {
     lists_have_the_effect();
     spelled_changes_are_writable();
-    updates_have_spellings();
+    updates_have_encodings();
     updates_paint_the_screen();
 }
 
@@ -51,6 +51,6 @@ pub fn updates_show_the_input()
     ensures idle { UpdatesLeaveNewViewersIdle }
 {
     one_cut();
-    actions_of_pieces_join();
+    actions_of_chunks_join();
     viewers_read_updates();
 }

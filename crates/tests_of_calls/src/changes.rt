@@ -72,7 +72,7 @@ fn cells_with_a_change_between(rt: HostRuntime) {
 }
 
 #[test]
-fn fronts_of_texts(rt: HostRuntime) {
+fn prefixes_of_texts(rt: HostRuntime) {
     assert_eq!(rt; split_plain("ab", 9), ("ab", ""));
     assert_eq!(rt; split_plain("abc", 2), ("ab", "c"));
     assert_eq!(rt; split_plain("abe\u{301}", 9), ("ab", "e\u{301}"));

@@ -1,4 +1,4 @@
-//! Large inputs of a terminal: pieces of 5 KB and 1 MB in one call, a held run, a command, replies and a list as long.
+//! Large inputs of a terminal: chunks of 5 KB and 1 MB in one call, a held run, a command, replies and a list as long.
 ghost use Rattle.std.specs.Prelude.{◌<◌, ◌^◌};
 
 use cell_base::Intensity;
@@ -28,13 +28,13 @@ pub fn fed<R: Abort + AllocGlobal>(rt: &R, width: usize, height: usize, bytes: &
 }
 
 // A terminal that was fed bytes in chunks of 4,096.
-fn fed_in_pieces<R: Abort + AllocGlobal>(rt: &R, width: usize, height: usize, bytes: &[u8]) -> Plain
+fn fed_in_chunks<R: Abort + AllocGlobal>(rt: &R, width: usize, height: usize, bytes: &[u8]) -> Plain
     requires width { (0 < width) × (width < 2 ^ 32) }
     requires height { (0 < height) × (height < 2 ^ 32) }
 {
     let mut terminal = Terminal::new(rt.alloc(), width, height, ProgramWidth).expect(rt, "memory");
-    for piece in bytes.chunks(4096) {
-        assert!(rt; terminal.feed(piece).is_ok());
+    for chunk in bytes.chunks(4096) {
+        assert!(rt; terminal.feed(chunk).is_ok());
     }
     terminal
 }
@@ -91,12 +91,12 @@ fn assert_scrolls<R: Abort + AllocGlobal>(rt: &R, line: &[u8], count: usize, row
     let bytes = times(rt, line, count);
     let number = count.saturating_mul(3);
     let update = update_of(rt, fed(rt, 80, 3, &bytes), rows, number);
-    let other = update_of(rt, fed_in_pieces(rt, 80, 3, &bytes), rows, number);
+    let other = update_of(rt, fed_in_chunks(rt, 80, 3, &bytes), rows, number);
     assert!(rt; update.as_slice() == other.as_slice());
 }
 
 #[test]
-fn pieces_of_5_kilobytes(rt: HostRuntime) {
+fn chunks_of_5_kilobytes(rt: HostRuntime) {
     assert_scrolls(&rt, b"abc\r\n", 1024, rows(&rt, b"abc", b"abc").as_str());
 }
 
@@ -119,7 +119,7 @@ pub fn rows_of_long_lines<R: Abort + AllocGlobal>(rt: &R) -> String {
 }
 
 #[test]
-fn pieces_of_a_megabyte(rt: HostRuntime) {
+fn chunks_of_a_megabyte(rt: HostRuntime) {
     let expected = rows_of_long_lines(&rt);
     assert_scrolls(&rt, &long_line(&rt), 1024, expected.as_str());
 }
@@ -147,7 +147,7 @@ fn runs_of_a_megabyte(rt: HostRuntime) {
     let run = times(&rt, b"abcdefghijklmnop", 65_536);
     let rows = rows_of_run(&rt);
     assert_held(&rt, fed(&rt, 80, 24, &run), rows.as_str());
-    assert_held(&rt, fed_in_pieces(&rt, 80, 24, &run), rows.as_str());
+    assert_held(&rt, fed_in_chunks(&rt, 80, 24, &run), rows.as_str());
 }
 
 // A title in its command.
@@ -171,7 +171,7 @@ fn titles_of_70_kilobytes(rt: HostRuntime) {
     let title = times(&rt, b"long title", 7_000);
     let command = command_of(&rt, &title);
     assert_titled(&rt, fed(&rt, 4, 1, &command), &title);
-    assert_titled(&rt, fed_in_pieces(&rt, 4, 1, &command), &title);
+    assert_titled(&rt, fed_in_chunks(&rt, 4, 1, &command), &title);
 }
 
 #[test]

@@ -11,7 +11,7 @@ const LETTER: &[u8] = b"\x1b[50;150Hx\0";
 const PATCH: &[u8] =
     b"\x1b]2;\x1b\\\x1b[50;150H\x1b[0m\x1b]8;;\x1b\\x\0\x1b[50;151H\x1b[0m\x1b]8;;\x1b\\\x1b[?25h";
 
-// Both show the same rows, with the cursor in the same place.
+// Both show the same rows, with the cursor at the same position.
 fn assert_same<R: Abort + AllocGlobal>(rt: &R, terminal: &Plain, viewer: &Plain) {
     let rows = terminal
         .surface()

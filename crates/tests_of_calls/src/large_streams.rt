@@ -75,7 +75,7 @@ fn lists_of_numbers(rt: HostRuntime) {
 }
 
 #[test]
-fn fronts_of_long_lists(rt: HostRuntime) {
+fn prefixes_of_long_lists(rt: HostRuntime) {
     let mut bytes = times(&rt, b"\x1b[", 1);
     bytes
         .extend_from_slice(&times(&rt, b"1;", 10_000))

@@ -13,20 +13,20 @@
 //!   selections.
 //! - `debugs`: `Debug`: the whole text of plain values, and of those with private fields how it begins.
 //! - `formats`: screens of one row in each format.
-//! - `fronts`: copies of the control sequence at the start of some bytes.
 //! - `grids`: what the lines of grids show after some changes.
-//! - `large`: large inputs of a terminal: pieces of 5 KB and 1 MB in one call, a held run, a command, replies and a
-//!   list as long.
+//! - `large`: large inputs of a terminal: chunks of 5 KB and 1 MB in one call, a held run, a command, replies
+//!   and a list as long.
 //! - `large_screens`: screens of 300 columns and 100 rows: updates, patches, another size, and long lines.
 //! - `large_streams`: large inputs of parsers and lists, and of `run` and `show`.
 //! - `left_early`: parsers of which pieces were dropped before their end.
 //! - `line_forms`: a line in each of its forms: of cells, clustered, and opened to cells again.
-//! - `lines`: equality and copies of lines, cells that are lent from texts, iterators at their end, and callbacks
-//!   that are asked of texts.
+//! - `lines`: equality and copies of lines, cells that are lent from texts, iterators at their end, and
+//!   callbacks that are asked of texts.
 //! - `partial`: readers and writers that give and take a few bytes at a time, and fail.
 //! - `pieces`: texts that are lent and actions between them, pieces that are left before their end, and parsers
 //!   that have failed.
 //! - `positions`: positions in a list of parameters: copied, and taken to another list.
+//! - `prefixes`: copies of the control sequence at the start of some bytes.
 //! - `recorded`: small recordings of both versions, whole, torn and wrong; and a large one; and times.
 //! - `renderings`: the bytes that are written for a change.
 //! - `scripts`: random scripts of changes on a small surface, beside a plain program that draws them column by
@@ -61,8 +61,6 @@ mod debugs;
 #[cfg(test)]
 mod formats;
 #[cfg(test)]
-mod fronts;
-#[cfg(test)]
 mod grids;
 #[cfg(test)]
 mod large;
@@ -82,6 +80,8 @@ mod partial;
 mod pieces;
 #[cfg(test)]
 mod positions;
+#[cfg(test)]
+mod prefixes;
 #[cfg(test)]
 mod recorded;
 #[cfg(test)]

@@ -1,5 +1,6 @@
 //! A line in each of its forms: of cells, clustered, and opened to cells again. か has width 2.
 use cell_base::{Cell, CellAttributes, Hyperlink, ProgramWidth};
+use cell_line::fast::unequal_columns::unequal_columns;
 use cell_line::{Line, StoredLine};
 use std::process::Abort;
 use std::rc::Rc;
@@ -225,8 +226,10 @@ fn is_clustered(line: &Line) -> bool {
 
 // Whether `unequal_columns` of two lines gives the columns from `start` to before `stop`.
 fn differ_in(line: &Line, other: &Line, start: usize, stop: usize) -> bool {
-    let (first, after) = line.unequal_columns(other);
-    first == start && after == stop
+    match unequal_columns(line, other) {
+        None => false,
+        Some((first, after)) => first == start && after == stop,
+    }
 }
 
 #[test]
@@ -237,8 +240,8 @@ fn columns_of_copies_do_not_differ(rt: HostRuntime) {
     let copy = clustered.try_clone().expect(&rt, "memory");
     assert!(rt; is_clustered(&copy));
     assert!(rt; differ_in(&clustered, &copy, 3, 3));
-    assert!(rt; differ_in(&clustered, &line, 0, 3));
-    assert!(rt; differ_in(&line, &line, 0, 3));
+    assert!(rt; unequal_columns(&clustered, &line).is_none());
+    assert!(rt; unequal_columns(&line, &line).is_none());
     let other = in_form(
         &rt,
         &two_renditions(&rt, "a\u{304b}", 0, "a"),

@@ -6,13 +6,13 @@ use std::io::{ErrorKind, Read, Write};
 /// Gives its bytes a few at a time, and fails at one read, or where one asks for more than 4,096
 /// bytes.
 #[derive(Drop)]
-pub struct Pieces {
+pub struct Chunks {
     pub bytes: &'static [u8],
     pub most: usize,
     pub reads_left: usize,
 }
 
-impl Read for Pieces {
+impl Read for Chunks {
     fn read(&mut self, buf: &mut [u8]) -> io::Result<usize> {
         if self.reads_left == 0 || buf.len() > 4096 {
             self.reads_left = usize::MAX;

@@ -1,5 +1,5 @@
 //! `show` on readers and writers that give and take a few bytes at a time, and fail.
-use crate::partial::{Pieces, Sink, sink_of};
+use crate::partial::{Chunks, Sink, sink_of};
 use std::alloc::Global;
 use std::io;
 use std::io::{ErrorKind, Read, Write};
@@ -9,8 +9,8 @@ const INPUT: &[u8] = b"w00tfoobaarbaz";
 
 const ROWS: &[u8] = b"foob\naarb\naz  \n";
 
-fn input_in(most: usize, reads_left: usize) -> Pieces {
-    Pieces {
+fn input_in(most: usize, reads_left: usize) -> Chunks {
+    Chunks {
         bytes: INPUT,
         most,
         reads_left,
@@ -18,9 +18,9 @@ fn input_in(most: usize, reads_left: usize) -> Pieces {
 }
 
 /// What `show` answers and writes on 4x3.
-fn shown(alloc: Global, mut pieces: Pieces, mut sink: Sink) -> (Result<(), RunError>, Vec<u8>) {
+fn shown(alloc: Global, mut chunks: Chunks, mut sink: Sink) -> (Result<(), RunError>, Vec<u8>) {
     let result = {
-        let mut reader = Watched::new(&mut pieces);
+        let mut reader = Watched::new(&mut chunks);
         let mut writer = Watched::new(&mut sink);
         show(alloc, &mut reader, &mut writer, 4, 3, ProgramWidth)
     };
@@ -29,7 +29,7 @@ fn shown(alloc: Global, mut pieces: Pieces, mut sink: Sink) -> (Result<(), RunEr
 }
 
 #[test]
-fn shows_the_rows_whatever_the_pieces(rt: HostRuntime) {
+fn shows_the_rows_whatever_the_chunks(rt: HostRuntime) {
     let alloc = rt.alloc();
     for most in [1, 2, 5, 4096] {
         for part in [1, 3, 100] {

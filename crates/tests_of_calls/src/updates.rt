@@ -1,5 +1,5 @@
 //! `run` on readers and writers that give and take a few bytes at a time, and fail.
-use crate::partial::{Pieces, Sink, sink_of};
+use crate::partial::{Chunks, Sink, sink_of};
 use std::alloc::Global;
 use std::process::Abort;
 use terminal::{ProgramWidth, RunError, Watched, run};
@@ -13,8 +13,8 @@ const UPDATES: &[u8] =
 // How many bytes the first of them has.
 const FIRST: usize = UPDATES.len() - 2;
 
-fn input_in(most: usize, reads_left: usize) -> Pieces {
-    Pieces {
+fn input_in(most: usize, reads_left: usize) -> Chunks {
+    Chunks {
         bytes: INPUT,
         most,
         reads_left,
@@ -22,9 +22,9 @@ fn input_in(most: usize, reads_left: usize) -> Pieces {
 }
 
 /// What `run` answers and writes on 4x1 with a look after each two bytes.
-fn ran(alloc: Global, mut pieces: Pieces, mut sink: Sink) -> (Result<(), RunError>, Vec<u8>) {
+fn ran(alloc: Global, mut chunks: Chunks, mut sink: Sink) -> (Result<(), RunError>, Vec<u8>) {
     let result = {
-        let mut reader = Watched::new(&mut pieces);
+        let mut reader = Watched::new(&mut chunks);
         let mut writer = Watched::new(&mut sink);
         run(alloc, &mut reader, &mut writer, 4, 1, 2, ProgramWidth)
     };
@@ -33,7 +33,7 @@ fn ran(alloc: Global, mut pieces: Pieces, mut sink: Sink) -> (Result<(), RunErro
 }
 
 #[test]
-fn writes_the_updates_whatever_the_pieces(rt: HostRuntime) {
+fn writes_the_updates_whatever_the_chunks(rt: HostRuntime) {
     let alloc = rt.alloc();
     for most in [1, 2, 4096] {
         for part in [1, 3, 100] {
@@ -50,8 +50,8 @@ fn is_part(text: &[u8], count: usize) -> bool {
 }
 
 /// Where a read fails, the first `count` bytes of the updates are written: those of what was read, except the last.
-fn assert_unread<R: Abort + AllocGlobal>(rt: &R, pieces: Pieces, count: usize) {
-    let (result, text) = ran(rt.alloc(), pieces, sink_of(rt.alloc(), 100, 100, 2));
+fn assert_unread<R: Abort + AllocGlobal>(rt: &R, chunks: Chunks, count: usize) {
+    let (result, text) = ran(rt.alloc(), chunks, sink_of(rt.alloc(), 100, 100, 2));
     assert_eq!(rt; result, Err(RunError::Read));
     assert!(rt; is_part(&text, count));
 }

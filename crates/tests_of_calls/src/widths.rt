@@ -125,7 +125,7 @@ fn viewers_of_own_widths(rt: HostRuntime) {
     assert_viewed(&rt, Single, b"\xe3\x81\x8babc");
 }
 
-// Beside what is printed with a NUL after it a patch has a title of 6 bytes, two places of 6, two pens of 11 and the
+// Beside what is printed with a NUL after it a patch has a title of 6 bytes, two positions of 6, two pens of 11 and the
 // cursor of 6; where nothing is printed one position and one pen.
 #[test]
 fn patches_of_own_widths(rt: HostRuntime) {

@@ -1,7 +1,6 @@
 //! Characters that are independent: between any two of them lies a boundary of clusters.
-ghost use Rattle.std.specs.Prelude.{◌≡◌, ◌↔◌, true, [], ◌∷◌, ◌++◌, ◌||◌, IfSome, IsNone};
+ghost use Rattle.std.specs.Prelude.{◌≡◌, ◌↔◌, [], ◌||◌, IfSome, IsNone};
 ghost use Rattle.std.specs.Int.{is_in_range};
-ghost use Rattle.unicode_segmentation.specs.Grapheme.{graphemes};
 ghost use Rattle.text_clusters.specs.Independent.{is_early, is_sign, is_eastern, is_later, is_late, is_independent};
 ghost use Rattle.text_clusters.specs.Independent.{is_flag_half, begins_independent, IsFirst};
 
@@ -118,23 +117,4 @@ pub fn first_character(text: &str) -> Option<(char, usize)>
     let mut characters = text.chars();
     let first = characters.next()?;
     Some((first, text.len() - characters.as_str().len()))
-}
-
-// Cuts off an independent first character where the rest meets `begins_independent`.
-#[inline(always)]
-pub(crate) fn split_independent(text: &str) -> Option<(&str, &str)>
-    ensures whole { IfSome result (λ parts. text.now ≡ parts.0.now ++ parts.1.now) }
-    ensures clusters { IfSome result (λ parts. graphemes true text.now ≡ parts.0.now ∷ graphemes true parts.1.now) }
-    ensures alone { IfSome result (λ parts. graphemes true parts.0.now ≡ parts.0.now ∷ []) }
-{
-    let (first, len) = first_character(text)?;
-    if !is_independent(first) {
-        return None;
-    }
-    let (cluster, rest) = text.split_at(len);
-    if begins_independent(rest) {
-        Some((cluster, rest))
-    } else {
-        None
-    }
 }

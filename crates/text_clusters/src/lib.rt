@@ -1,8 +1,19 @@
 //! The cut of a text into extended grapheme clusters (UAX 29): its laws, and the start of a text cut
 //! off by them. Beside it, tests for printable characters and for controls.
+//!
+//! - `controls`: controls in bytes: C0 and DEL, looked for sixteen bytes at a time, and C1 in UTF-8.
+//! - `fast`: shortcuts, which a reader may skip: each returns what the general way does, or `None`, which
+//!   leaves all to it.
+//! - `independent`: characters that are independent: between any two of them lies a boundary of clusters.
+//! - `lanes`: blocks of bytes that one comparison tests.
+//! - `laws`: laws of the cut: each is the contract of a function that does nothing.
+//! - `prefix`: the start of a text, cut off so that the clusters of the text are those of both parts.
+//! - `printable`: printable characters at the start of some bytes, looked for sixteen bytes at a time, then
+//!   eight, then four.
 #![tactic(auto)]
 
 mod controls;
+mod fast;
 mod independent;
 mod lanes;
 pub mod laws;

@@ -6,7 +6,8 @@ ghost use Rattle.unicode_segmentation.specs.Grapheme.{graphemes};
 ghost use Rattle.text_clusters.specs.Independent.{independent_len, BeginsPrintable};
 ghost use Rattle.text_clusters.specs.Plain.{is_printable, each, plain_len};
 
-use crate::independent::{begins_independent, split_independent};
+use crate::fast::first_cluster::split_independent;
+use crate::independent::begins_independent;
 use crate::printable::{is_printable, printable_len};
 use unicode_segmentation::UnicodeSegmentation;
 

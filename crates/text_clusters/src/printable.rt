@@ -1,4 +1,4 @@
-//! Printable characters at the start of some bytes, sixteen bytes at a time, or eight or four of fewer.
+//! Printable characters at the start of some bytes, looked for sixteen bytes at a time, then eight, then four.
 ghost use Rattle.std.specs.Prelude.{◌≡◌, ◌≤◌, length, take};
 ghost use Rattle.std.specs.List.{list_all, prefix_len};
 ghost use Rattle.text_clusters.specs.Plain.{is_printable};

@@ -2,8 +2,8 @@
 ghost use Rattle.std.specs.Prelude.{◌≡◌, ◌<◌, ◌≤◌, length, IfOk, MatchOption};
 ghost use Rattle.cell_edits.specs.TextRuns.{Leads};
 
+use crate::fast::single_cells::single_cells;
 use crate::row::ClusteredRow;
-use crate::text_cells::single_cells;
 use cell_base::{CellAttributes, Widths};
 use std::alloc::AllocError;
 use std::mem;

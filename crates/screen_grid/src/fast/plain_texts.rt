@@ -1,15 +1,38 @@
 //! Printable ASCII characters that fit in the cursor's row, put at once.
-ghost use Rattle.std.specs.Prelude.{◌≡◌, ℕ, true, ◌+◌, ◌≤◌, ◌∷◌, [], length, IsTrue, OnOk};
+ghost use Rattle.std.specs.Prelude.{◌≡◌, ℕ, true, ◌+◌, ◌^◌, ◌<◌, ◌≤◌, ◌∷◌, [], length, slice_set, IsTrue, OnOk};
 ghost use Rattle.std.specs.List.{list_all};
 ghost use Rattle.text_clusters.specs.Plain.{is_printable};
+ghost use Rattle.cell_line.specs.LineCalls.{set_plain as plain_set};
 ghost use Rattle.screen_effects.specs.Strokes.{text_done};
-ghost use Rattle.screen_grid.specs.Grid.{display_of, IsDrawn, Shows};
+ghost use Rattle.screen_grid.specs.Grid.{display_of, line_at, IsDrawn, Shows};
 
 use crate::grid::Grid;
-use crate::rows::set_plain;
-use cell_base::Widths;
+use crate::ring::Ring;
+use cell_base::{CellAttributes, Widths};
+use cell_line::{Line, row_writing};
 use std::alloc::AllocError;
 use text_clusters::are_printable;
+
+// Sets printable ASCII characters from a column of a row on, each as a cell of one column.
+#[inline(always)]
+fn set_plain(
+    rows: &mut Ring<Line>,
+    row: usize,
+    at: usize,
+    text: &str,
+    attrs: &CellAttributes,
+) -> Result<(), AllocError>
+    requires row_in { row < length rows.old }
+    requires printable { list_all is_printable text.now ≡ true }
+    requires within { at + length text.now ≤ length (line_at rows.old row).columns }
+    requires small { at + length text.now < 2 ^ 64 }
+    ensures len { length rows.new ≡ length rows.old }
+    ensures lines { OnOk result
+        (rows.new ≡ slice_set rows.old row (plain_set (line_at rows.old row) at text.now attrs.now)) }
+{
+    row_writing::set_plain(&mut rows[row], at, text, attrs)?;
+    Ok(())
+}
 
 impl<W: Widths + Drop> Grid<W> {
     // Whether a text is printable ASCII characters that fit in the cursor's row, each of which is known to take one

@@ -20,8 +20,8 @@ loop-index-preserved c =
       | else-index-gt0 w ↦ grind (arith, common_steps, joined_step)
     ]
 
-pub unwrap-requires : goal.unwrap-requires
-unwrap-requires c =
+pub from_utf8_unchecked-requires : goal.from_utf8_unchecked-requires
+from_utf8_unchecked-requires c =
     let all : take c.loop-index.index c.args.parts.now ≡ c.args.parts.now = grind (arith, common_steps) in
     let is : c.loop-index.joined.items ≡ join_with_byte 59 (map (λ p. p.now) c.args.parts.now) = c.loop-index.invariant ∙ ap (λ ps. join_with_byte 59 (map (λ p. p.now) ps)) all in
-    c.from_utf8.ensures.succeeds (subst IsUtf8 (sym is) (IsUtf8-from_is_utf8 _ c.requires))
+    subst IsUtf8 (sym is) (IsUtf8-from_is_utf8 _ c.requires)

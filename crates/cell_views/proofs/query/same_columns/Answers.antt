@@ -8,7 +8,7 @@ use Rattle.cell_views.proofs.query.same_columns.Goals as goal
 pub returns : goal.returns
 returns c = (
   (λ e.
-      same_rows (stored_row c.args.cells) (stored_row c.args.other) c.is_whole.ensures c.is_whole-2.ensures
-      (c.same_contents.ensures.0 e)),
-  (λ e. c.same_contents.ensures.1 (ap (λ (r : Row). contents (visible_cells r)) e)),
+      same_rows (stored_row c.args.cells) (stored_row c.args.other) c.same_contents.ensures.whole c.same_contents.ensures.other_whole
+      (c.same_contents.ensures.value.0 e)),
+  (λ e. c.same_contents.ensures.value.1 (ap (λ (r : Row). contents (visible_cells r)) e)),
 )

@@ -7,5 +7,5 @@ returns-clause-placed c = each_placed
 pub returns-clause-all : goal.returns-clause-all
 returns-clause-all c = each_collected
 
-pub returns-clause-in_pieces : goal.returns-clause-in_pieces
-returns-clause-in_pieces c = of_piece
+pub returns-clause-in_chunks : goal.returns-clause-in_chunks
+returns-clause-in_chunks c = of_piece

@@ -1,10 +1,4 @@
-use Rattle.std.proofs.Common.{◌≡◌, rules}
-use Rattle.std.specs.Str.{IsAscii}
-use Rattle.std.proofs.lemmas.Str.{chars-IsAscii}
 use Rattle.escape_stream.proofs.parse.call_at_text.Goals as goal
 
-pub returns-then-is_ascii-clause-called : goal.returns-then-is_ascii-clause-called
-returns-then-is_ascii-clause-called g c =
-    let a : IsAscii c.args.text.now = search rules in
-    let b : c.as_bytes.result.now ≡ c.args.text.now = search rules in
-    rw (chars-IsAscii c.args.text.now a, ← b) c.call_at_bytes.ensures.called
+pub returns-in-Some-clause-called : goal.returns-in-Some-clause-called
+returns-in-Some-clause-called g c = rw c.in-Some.ensures c.call_at_bytes.ensures.called

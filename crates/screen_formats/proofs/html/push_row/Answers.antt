@@ -1,7 +1,7 @@
 use Rattle.std.proofs.Common.{rules, ◌≡◌, ◌<◌, ◌≤◌, ◌∙◌, length, get_or}
 use Rattle.screen_formats.specs.Html.{html_run}
 use Rattle.screen_formats.specs.declared.escape.Markup.TheVariants.{Html}
-use Rattle.screen_formats.proofs.PieceLemmas.{written_all, written_item, written_none}
+use Rattle.screen_formats.proofs.TokenLemmas.{written_all, written_item, written_none}
 use Rattle.screen_formats.proofs.html.push_row.Goals as goal
 
 pub loop-run-init : goal.loop-run-init

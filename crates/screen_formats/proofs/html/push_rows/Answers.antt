@@ -5,9 +5,9 @@ use Rattle.std.proofs.lemmas.List.{take_all}
 use Rattle.std.proofs.lemmas.List.Folds.{flat_map-map}
 use Rattle.cell_line.specs.LineContent.{LineContent}
 use Rattle.screen_formats.specs.Html.{html_row}
-use Rattle.screen_formats.specs.Pieces.{pieces_text}
+use Rattle.screen_formats.specs.Tokens.{tokens_text}
 use Rattle.screen_formats.specs.declared.escape.Markup.TheVariants.{Html}
-use Rattle.screen_formats.proofs.PieceLemmas.{written_item, written_none}
+use Rattle.screen_formats.proofs.TokenLemmas.{written_item, written_none}
 use Rattle.screen_formats.proofs.html.push_rows.Goals as goal
 
 pub loop-line-init : goal.loop-line-init
@@ -23,5 +23,5 @@ pub returns : goal.returns
 returns c =
     let all : length c.args.lines.now ≤ c.loop-line.line-index = search rules in
     c.loop-line.invariant
-    ∙ ap (λ (lines : List LineContent). string_bytes c.args.out.now ++ pieces_text Html (flat_map (λ line. html_row line.columns) lines)) (take_all c.loop-line.line-index c.args.lines.now all)
-    ∙ ap (λ pieces. string_bytes c.args.out.now ++ pieces_text Html pieces) (sym (flat_map-map html_row (λ line. line.columns) c.args.lines.now))
+    ∙ ap (λ (lines : List LineContent). string_bytes c.args.out.now ++ tokens_text Html (flat_map (λ line. html_row line.columns) lines)) (take_all c.loop-line.line-index c.args.lines.now all)
+    ∙ ap (λ tokens. string_bytes c.args.out.now ++ tokens_text Html tokens) (sym (flat_map-map html_row (λ line. line.columns) c.args.lines.now))

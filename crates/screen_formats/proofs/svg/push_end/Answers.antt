@@ -1,5 +1,5 @@
 use Rattle.screen_formats.specs.declared.escape.Markup.TheVariants.{Xml}
-use Rattle.screen_formats.proofs.PieceLemmas.{written_more}
+use Rattle.screen_formats.proofs.TokenLemmas.{written_more}
 use Rattle.screen_formats.proofs.svg.push_end.Goals as goal
 
 pub returns : goal.returns

@@ -2,7 +2,7 @@ use Rattle.std.proofs.Common.{rules, ◌≡◌, false}
 use Rattle.screen_formats.specs.Colors.{has_background}
 use Rattle.screen_formats.specs.Svg.{svg_paper}
 use Rattle.screen_formats.specs.declared.escape.Markup.TheVariants.{Xml}
-use Rattle.screen_formats.proofs.PieceLemmas.{written_none}
+use Rattle.screen_formats.proofs.TokenLemmas.{written_none}
 use Rattle.screen_formats.proofs.svg.push_paper.Goals as goal
 
 pub returns-then-not-has_background : goal.returns-then-not-has_background

@@ -2,11 +2,11 @@ use Rattle.std.proofs.Common.{rules, ◌≡◌, ◌<◌, ◌≤◌, ◌++◌, �
 use Rattle.std.specs.List.{flat_map}
 use Rattle.std.specs.String.{string_bytes}
 use Rattle.std.proofs.lemmas.List.{take_all}
-use Rattle.screen_formats.specs.Pieces.{pieces_text}
+use Rattle.screen_formats.specs.Tokens.{tokens_text}
 use Rattle.screen_formats.specs.Runs.{Run}
 use Rattle.screen_formats.specs.Svg.{svg_part}
 use Rattle.screen_formats.specs.declared.escape.Markup.TheVariants.{Xml}
-use Rattle.screen_formats.proofs.PieceLemmas.{written_item, written_none}
+use Rattle.screen_formats.proofs.TokenLemmas.{written_item, written_none}
 use Rattle.screen_formats.proofs.svg.push_parts.Goals as goal
 
 pub loop-run-init : goal.loop-run-init
@@ -21,4 +21,4 @@ loop-run-preserved c =
 pub returns : goal.returns
 returns c =
     let all : length c.args.runs.now ≤ c.loop-run.run-index = search rules in
-    c.loop-run.invariant ∙ ap (λ (runs : List Run). string_bytes c.args.out.now ++ pieces_text Xml (flat_map (svg_part c.args.is_text c.args.row) runs)) (take_all c.loop-run.run-index c.args.runs.now all)
+    c.loop-run.invariant ∙ ap (λ (runs : List Run). string_bytes c.args.out.now ++ tokens_text Xml (flat_map (svg_part c.args.is_text c.args.row) runs)) (take_all c.loop-run.run-index c.args.runs.now all)

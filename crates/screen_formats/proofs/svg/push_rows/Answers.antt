@@ -1,6 +1,6 @@
 use Rattle.std.proofs.Common.{rules, ◌≡◌, ◌<◌, length, get_or}
 use Rattle.screen_formats.specs.declared.escape.Markup.TheVariants.{Xml}
-use Rattle.screen_formats.proofs.PieceLemmas.{written_none}
+use Rattle.screen_formats.proofs.TokenLemmas.{written_none}
 use Rattle.screen_formats.proofs.SvgLemmas.{row_written}
 use Rattle.screen_formats.proofs.svg.push_rows.Goals as goal
 

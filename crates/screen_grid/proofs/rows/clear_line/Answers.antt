@@ -9,5 +9,5 @@ pub returns : goal.returns
 returns c =
     let was = c.args.line.now in
     c.size_line.ensures
-    ∙ ap (λ (l : LineContent). with_bits l 0 SingleWidthLine) (c.in_ok-set_blanks.ensures.done ∙ (λ i. blanks_set was 0 (c.len-width.ensures i) (c.blank.ensures i)))
+    ∙ ap (λ (l : LineContent). with_bits l 0 SingleWidthLine) (c.in_ok-set_blanks.ensures.done ∙ (λ i. blanks_set was 0 (c.len-width.ensures.value i) (c.blank.ensures i)))
     ∙ line_cleared was

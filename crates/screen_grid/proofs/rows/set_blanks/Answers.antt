@@ -8,4 +8,4 @@ pub returns-clause-lines : goal.returns-clause-lines
 returns-clause-lines c =
     let x = c.index_mut-line.result.now in
     line_changed c.args.rows.now c.args.row x c.set_blanks.new.line (λ (l : LineContent). blanks_set l c.args.at (length l.columns) c.args.attrs.now) c.requires.row_in c.index_mut-line.ensures.value
-    (c.in_ok-set_blanks.ensures.done ∙ ap (λ w. blanks_set x c.args.at w c.args.attrs.now) c.len-width.ensures)
+    (c.in_ok-set_blanks.ensures.done ∙ ap (λ w. blanks_set x c.args.at w c.args.attrs.now) c.len-width.ensures.value)

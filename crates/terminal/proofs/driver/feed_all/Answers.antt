@@ -10,9 +10,9 @@ use Rattle.terminal.proofs.driver.feed_all.Goals as goal
 
 pub loop-init : goal.loop-init
 loop-init g c = record {
-  not_failed = c.requires.not_failed;
+  not_failed = c.requires.reader.not_failed;
   ends = refl;
-  reads = c.requires.unread;
+  reads = c.requires.reader.unread;
   sound = c.requires.sound;
   feeds = feeds_first (λ w. g.W.Widths.width_of w) (g.R.Read.remaining c.args.reader.now.inner) c.args.terminal.now c.requires.sound;
   room = refl;

@@ -1,7 +1,7 @@
 use Rattle.std.proofs.Common.{Result, Ok, Err, OnOk, OnErr}
 use Rattle.std.proofs.lemmas.Result.{err_from_is_err_and}
 use Rattle.terminal_viewers.specs.Updates.{new_standing}
-use Rattle.terminal.proofs.SendLemmas.{new_all, new_chunks, new_part, new_past, nothing_sent}
+use Rattle.terminal.proofs.SendLemmas.{new_all, new_chunks, new_part, new_past, nothing_written}
 use Rattle.terminal.proofs.updates.run.Goals as goal
 
 if_ok : {T E : Type 0} (r : Result T E) (P Q : Type 0) → (P → Q) → OnOk r P → OnOk r Q
@@ -15,7 +15,7 @@ if_err (Err e) P Q f p = f p
 pub returns-in_err-terminal-clause-err : goal.returns-in_err-terminal-clause-err
 returns-in_err-terminal-clause-err g c =
     let p = err_from_is_err_and c.from_residual.result c.from_residual.ensures.1 in
-    rw p.1 (nothing_sent (λ w. g.W.Widths.width_of w) (g.W.Widths.width_of c.args.widths) c.args.every (new_standing c.args.width c.args.height) (g.R.Read.remaining c.args.reader.now.inner) (g.T.Write.contents c.args.writer.now.inner))
+    rw p.1 (nothing_written (λ w. g.W.Widths.width_of w) (g.W.Widths.width_of c.args.widths) c.args.every (new_standing c.args.width c.args.height) (g.R.Read.remaining c.args.reader.now.inner) (g.T.Write.contents c.args.writer.now.inner))
 
 pub returns-clause-number : goal.returns-clause-number
 returns-clause-number g c = λ e. new_past (λ w. g.W.Widths.width_of w) c.args.widths c.args.every c.in_ok-terminal.terminal c.args.width c.args.height (g.R.Read.remaining c.args.reader.now.inner)

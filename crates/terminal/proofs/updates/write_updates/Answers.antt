@@ -28,10 +28,10 @@ prefix (suc n) (x ∷ xs) ys h = ap (λ zs. x ∷ zs) (prefix n xs ys (omega (ar
 
 pub loop-init : goal.loop-init
 loop-init g c = record {
-  reader = c.requires.reader;
+  reader = c.requires.reader.not_failed;
   ends_reads = refl;
   ends_writes = refl;
-  reads = c.requires.unread;
+  reads = c.requires.reader.unread;
   writer = c.requires.writer;
   sound = c.requires.sound;
   widths = refl;

@@ -1,6 +1,6 @@
 use Rattle.screen_change.specs.ValueOf.{value_of as change_value}
 use Rattle.std.proofs.Common.{map}
-use Rattle.csi_codec.proofs.FrontTrip.{writable_texts_are_fronts-lem}
+use Rattle.csi_codec.proofs.PrefixTrip.{writable_texts_are_sequences-lem}
 use Rattle.csi_codec.proofs.RoundTrip.{writable_actions_read_back-lem}
 use Rattle.escape_stream.specs.StreamActionView.{value_of}
 use Rattle.terminal_render.specs.Rendering.{rendering}
@@ -11,5 +11,5 @@ use Rattle.terminal_render.proofs.rendering.render.Goals as goal
 pub returns-clause-writable : goal.returns-clause-writable
 returns-clause-writable c =
     let list = c.in_ok-to_vec.field-0 in
-    are_writable writable_actions_read_back-lem writable_texts_are_fronts-lem (change_value c.args.change.now) c.args.width c.args.height (map value_of list.items) (c.has_encoding.ensures.change (cc)) c.requires.columns c.requires.width c.requires.rows c.requires.height
+    are_writable writable_actions_read_back-lem writable_texts_are_sequences-lem (change_value c.args.change.now) c.args.width c.args.height (map value_of list.items) (c.has_encoding.ensures.change (cc)) c.requires.size.columns.0 c.requires.size.columns.1 c.requires.size.rows.0 c.requires.size.rows.1
     (first_rendered (rendering (change_value c.args.change.now) c.args.width c.args.height) c.new-actions.result c.push_change.new.actions (map value_of list.items) c.in_ok-push_change.ensures c.new-actions.ensures c.in_ok-to_vec.ensures)

@@ -8,7 +8,7 @@ pub returns-clause-logged : goal.returns-clause-logged
 returns-clause-logged c = logged_joins
 
 pub returns-clause-cut : goal.returns-clause-cut
-returns-clause-cut c = cut_after c.actions_of_pieces_join.ensures
+returns-clause-cut c = cut_after c.actions_of_chunks_join.ensures
 
 pub returns-clause-cut_logged : goal.returns-clause-cut_logged
-returns-clause-cut_logged c = cut_logged c.actions_of_pieces_join.ensures
+returns-clause-cut_logged c = cut_logged c.actions_of_chunks_join.ensures

@@ -14,6 +14,6 @@ returns-then-is_empty c = (λ e. absurd (false≢true e), λ back. absurd (false
 
 pub returns : goal.returns
 returns c = (
-  λ e. link_written_back c.self.inside.params.entries c.self.inside.uri c.self.inside.implicit c.args.self.now c.self.view_is c.are_in_order.ensures c.if-self.false c.if-is_empty.ensures (sym c.are_writable.ensures ∙ e),
-  λ back. c.are_writable.ensures ∙ ap (λ (l : Link). list_all is_writable l.params) c.self.view_is ∙ back_is_writable c.args.self.now back,
+  λ e. link_written_back c.self.inside.params.entries c.self.inside.uri c.self.inside.implicit c.args.self.now c.self.view_is c.are_writable.ensures.order c.if-self.false c.if-is_empty.ensures (sym c.are_writable.ensures.value ∙ e),
+  λ back. c.are_writable.ensures.value ∙ ap (λ (l : Link). list_all is_writable l.params) c.self.view_is ∙ back_is_writable c.args.self.now back,
 )

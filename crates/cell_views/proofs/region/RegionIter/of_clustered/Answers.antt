@@ -12,7 +12,7 @@ cells_between-cells-requires-clause-order c =
     let start = c.args.start in
     let last = c.args.end in
     let less : start < last = omega arith in
-    let clean = start_clean start row c.is_whole.ensures in
+    let clean = start_clean start row c.start_edge-first.ensures.whole in
     let order = in_order (inner_start start row) last row (start_before start last row less) clean in
     let from = c.start_edge-first.ensures.column in
     let to = c.end_edge-last.ensures.column in
@@ -28,13 +28,13 @@ pub cells_between-cells-requires-clause-first : goal.cells_between-cells-require
 cells_between-cells-requires-clause-first c =
     let row = c.args.row.now in
     let from = c.start_edge-first.ensures.column in
-    ap (λ n. is_split n row) from ∙ start_clean c.args.start row c.is_whole.ensures
+    ap (λ n. is_split n row) from ∙ start_clean c.args.start row c.start_edge-first.ensures.whole
 
 pub cells_between-cells-requires-clause-last : goal.cells_between-cells-requires-clause-last
 cells_between-cells-requires-clause-last c =
     let row = c.args.row.now in
     let to = c.end_edge-last.ensures.column in
-    ap (λ n. is_split n row) to ∙ end_clean c.args.end row c.is_whole.ensures (omega arith)
+    ap (λ n. is_split n row) to ∙ end_clean c.args.end row c.start_edge-first.ensures.whole (omega arith)
 
 pub returns : goal.returns
 returns c =
@@ -45,4 +45,4 @@ returns c =
     let cells =
     (λ i. visible_from (part.column i) (part.row i)) ∙ (λ i. inner_part (first.column i) (last.column i) row) in
     (λ i. first.half i ++ (c.of_clustered.ensures ∙ (λ j. cells j ++ last.half j)) i)
-    ∙ region_parts row c.args.start c.args.end c.is_whole.ensures (omega arith) c.requires.within
+    ∙ region_parts row c.args.start c.args.end c.start_edge-first.ensures.whole (omega arith) c.requires.within

@@ -13,4 +13,4 @@ returns-clause-row c =
     let value = c.width-columns.ensures.value in
     c.in_ok-set_cell.ensures.done
     ∙ (λ i. set_columns c.args.self.now c.args.at (cell_columns (cell_of (c.str.ensures i) (value i) (c.attrs-2.ensures i))))
-    ∙ ap (set_columns c.args.self.now c.args.at) (first_whole c.args.cell.now (length c.args.self.now - c.args.at) c.cells_are_lawful.ensures (omega (arith, width, value, c.if-self-at.false)))
+    ∙ ap (set_columns c.args.self.now c.args.at) (first_whole c.args.cell.now (length c.args.self.now - c.args.at) c.width-columns.ensures.lawful (omega (arith, width, value, c.if-self-at.false)))

@@ -1,6 +1,6 @@
 use Rattle.std.proofs.Common.{arith}
 use Rattle.std.proofs.lemmas.Fmt.{decimal_nonempty}
-use Rattle.csi_codec.proofs.TextSteps.{after_front, digit_after, has_small_room, has_last_room}
+use Rattle.csi_codec.proofs.TextSteps.{after_prefix, digit_after, has_small_room, has_last_room}
 use Rattle.csi_codec.proofs.text.SequenceText.+push_large_number.Goals as goal
 
 pub push_small_number-requires : goal.push_small_number-requires
@@ -8,7 +8,7 @@ push_small_number-requires t c = has_small_room _ c.args.number (decimal_nonempt
 
 pub push_large_number-requires : goal.push_large_number-requires
 push_large_number-requires t c =
-    let prefix = after_front c.args.number (omega arith) (omega arith) in
+    let prefix = after_prefix c.args.number (omega arith) (omega arith) in
     (omega arith, omega arith)
 
 pub push_sign-requires-clause-room : goal.push_sign-requires-clause-room

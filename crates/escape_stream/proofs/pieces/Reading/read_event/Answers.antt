@@ -43,4 +43,4 @@ returns-in-None-clause-finds c =
     (b.over c.in-None.is)
 
 pub returns-in_err-len-clause-memory : goal.returns-in_err-len-clause-memory
-returns-in_err-len-clause-memory c = on_refusal c.from_residual.result c.args.self.now (asks_body c.args.self.now c.requires.going.ready c.in_err-len.ensures.memory)
+returns-in_err-len-clause-memory c = on_refusal c.from_residual.result c.args.self.now (asks_body c.args.self.now c.requires.going.ready c.requires.over c.in_err-len.ensures.memory)

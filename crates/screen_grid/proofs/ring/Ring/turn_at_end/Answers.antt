@@ -30,9 +30,9 @@ returns-clause-len g c =
     let n = inside.items.ok.0 in
     let v = c.self.invariant in
     let t = c.if-self-eq0.false in
-    let same : length c.bring_to_front.new.items ≡ length xs = c.bring_to_front.ensures.len ∙ ap length c.deref_mut-2.ensures.value in
-    ap (λ (l : List g.row.T.Denot). length (take inside.len (drop 1 l))) (refilled_by inside.items.len xs c.bring_to_front.new.items n same)
-    ∙ as_many xs c.bring_to_front.new.items c.args.self.now inside.start 1 inside.len c.self.view_is (omega arith) same (omega arith)
+    let same : length c.move_to_start.new.items ≡ length xs = c.move_to_start.ensures.len ∙ ap length c.deref_mut-2.ensures.value in
+    ap (λ (l : List g.row.T.Denot). length (take inside.len (drop 1 l))) (refilled_by inside.items.len xs c.move_to_start.new.items n same)
+    ∙ as_many xs c.move_to_start.new.items c.args.self.now inside.start 1 inside.len c.self.view_is (omega arith) same (omega arith)
 
 pub returns-clause-prefix : goal.returns-clause-prefix
 returns-clause-prefix g c =
@@ -40,8 +40,8 @@ returns-clause-prefix g c =
     let xs = inside.items.items in
     let n = inside.items.ok.0 in
     let v = c.self.invariant in
-    let new = c.bring_to_front.new.items in
-    let same : length new ≡ length xs = c.bring_to_front.ensures.len ∙ ap length c.deref_mut-2.ensures.value in
+    let new = c.move_to_start.new.items in
+    let same : length new ≡ length xs = c.move_to_start.ensures.len ∙ ap length c.deref_mut-2.ensures.value in
     let value = ap (λ (l : List g.row.T.Denot). take inside.len (drop inside.start l)) c.deref_mut-2.ensures.value ∙ c.self.view_is in
     ap (λ (l : List g.row.T.Denot). take (length c.args.self.now - 1) (take inside.len (drop 1 l))) (refilled_by inside.items.len xs new n same)
-    ∙ turned_on new c.args.self.now 0 inside.len (c.bring_to_front.ensures.prefix ∙ value) c.requires.some (omega arith)
+    ∙ turned_on new c.args.self.now 0 inside.len (c.move_to_start.ensures.prefix ∙ value) c.requires.some (omega arith)

@@ -3,7 +3,6 @@ use Rattle.std.proofs.lemmas.Result.{err_from_is_err_and}
 use Rattle.cell_surface.specs.declared.error.SurfaceError.{SurfaceError}
 use Rattle.escape_framing.specs.Held.{held_of}
 use Rattle.escape_stream.specs.Items.{items}
-use Rattle.escape_stream.specs.PiecesView.{BytesTakeMemory}
 use Rattle.escape_stream.specs.declared.perform.Halted.{Halted}
 use Rattle.escape_stream.specs.declared.perform.Halted.TheVariants as halted
 use Rattle.terminal_steps.specs.Items.{Leads}
@@ -52,10 +51,10 @@ returns-in_err-hand_to-clause-memory g c =
     let is : of_halted c.in_err-hand_to.field-0.0 ≡ Memory = cc in
     fed_memory (λ w. g.W.Widths.width_of w) c.self.inside.state c.self.inside.parser.held c.args.self.now c.args.piece.now c.hand_to.new.performer.surface.is_failed can.ready
     ((λ i. record (with_parts c.self.inside.state c.self.inside.parser.held) { is_failed = sym c.if-self.false i }) ∙ c.self.view_is)
-    (λ stream at. halted_memory (λ w. g.W.Widths.width_of w) (BytesTakeMemory stream c.args.piece.now) c.self.inside.state c.hand_to.new.performer (items stream c.args.piece.now) c.in_err-hand_to.field-0.0 is
+    (λ stream at. halted_memory (λ w. g.W.Widths.width_of w) c.self.inside.state c.hand_to.new.performer stream c.args.piece.now c.in_err-hand_to.field-0.0 is
     (λ m.
     let refused : ◌≡◌ {A = Result (Unit {0}) (Halted SurfaceError)} (Err c.in_err-hand_to.field-0.0) (Err halted.Memory) = cc in
-    c.in_err-hand_to.ensures.memory refused stream at)
+    c.in_err-hand_to.ensures.early refused stream at)
     (c.in_err-hand_to.ensures.halted stream at)))
 
 pub invariant_of-self-2 : goal.invariant_of-self-2

@@ -1,0 +1,8 @@
+use Rattle.std.proofs.Common.{sym, subst}
+use Rattle.cell_base.specs.WholeRow.{IsWhole}
+use Rattle.cell_edits.proofs.RowLaws.{whole_cells}
+use Rattle.cell_views.specs.StoredCells.{stored_row}
+use Rattle.cell_views.proofs.visible_cells.VisibleCellIter.new.Goals as goal
+
+pub returns-in-Cells-clause-whole : goal.returns-in-Cells-clause-whole
+returns-in-Cells-clause-whole c = subst (λ s. IsWhole (stored_row s)) (sym c.in-Cells.is) (whole_cells c.in-Cells.cells.now)

@@ -1,5 +1,0 @@
-use Rattle.escape_stream.proofs.ActionOffsets.{actions_join}
-use Rattle.escape_stream.proofs.action_laws.actions_of_pieces_join.Goals as goal
-
-pub returns : goal.returns
-returns c = actions_join

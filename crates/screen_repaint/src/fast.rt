@@ -1,0 +1,5 @@
+//! Shortcuts, which a reader may skip: each returns what the general way does, or `None`, which leaves all to it.
+
+mod plain_cells;
+
+pub(crate) use plain_cells::{pass_plain_spaces, write_plain};

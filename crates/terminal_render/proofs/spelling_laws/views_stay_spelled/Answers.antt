@@ -1,8 +1,0 @@
-use Rattle.terminal_render.proofs.ViewLemmas.{event_spelled, new_spelled}
-use Rattle.terminal_render.proofs.spelling_laws.views_stay_spelled.Goals as goal
-
-pub returns-clause-new : goal.returns-clause-new
-returns-clause-new c = new_spelled
-
-pub returns-clause-event : goal.returns-clause-event
-returns-clause-event c = event_spelled

@@ -1,0 +1,112 @@
+//! Laws of which changes have an encoding: all that a terminal makes. Each is the contract of a function that does
+//! nothing.
+ghost use Rattle.std.specs.Prelude.{◌≡◌, ◌≢◌, ◌↔◌, ◌<◌, ◌^◌, ℕ, List, None, Some, IfSome, fold};
+ghost use Rattle.cell_base.specs.Attributes.{Attributes};
+ghost use Rattle.cell_base.specs.Screen.{height};
+ghost use Rattle.screen_change.specs.ChangeValue.{ChangeValue};
+ghost use Rattle.screen_log.specs.Log.{Log, due};
+ghost use Rattle.screen_log.specs.LogSteps.{Sized, step_of_kept};
+ghost use Rattle.escape_stream.specs.StreamAction.{StreamAction};
+ghost use Rattle.escape_stream.specs.StreamWritable.{IsWritable};
+ghost use Rattle.screen_effects.specs.Display.{Display, IsDisplay, new_display};
+ghost use Rattle.screen_effects.specs.Effect.{effect};
+ghost use Rattle.screen_effects.specs.Resize.{resized};
+ghost use Rattle.terminal_render.specs.Carried.{HaveColors};
+ghost use Rattle.terminal_render.specs.Lists.{all_rendered};
+ghost use Rattle.terminal_render.specs.Pen.{pen_rendering};
+ghost use Rattle.terminal_table.specs.History.{Event, History, events};
+ghost use Rattle.terminal_table.specs.Logged.{event_logged, log_after};
+ghost use Rattle.terminal_table.specs.Meaning.{View, new_view, after, event_done};
+ghost use Rattle.terminal_table.specs.Turns.{AreSizes, IsView, IsEvent, changes_in};
+ghost use Rattle.terminal_render.specs.Spelling.{AreSpelledEvents, HaveEncodings, IsSpelledChange, IsSpelledEvent};
+ghost use Rattle.terminal_render.specs.Spelling.{IsSpelledPen, IsSpelledScreen, IsSpelledView};
+
+use crate::laws::{lists_join, renderings_are_writable};
+use escape_framing::laws::one_cut;
+
+/// Attributes whose colours are of bytes have an encoding exactly where SGR and OSC 8 set them: of no row
+/// that goes on, of semantic type output, with a link that is carried, and with colours that don't fall
+/// back to the palette.
+pub fn spelled_pens_are_rendered()
+    ensures { (pen : Attributes) → HaveColors pen → (IsSpelledPen pen ↔ (pen_rendering pen ≢ None)) }
+{}
+
+/// The cells, the pen and the title of a new display have an encoding, and a display keeps this under changes
+/// that have it themselves, and under other sizes.
+pub fn displays_stay_spelled()
+    ensures new { (width : ℕ) (height : ℕ) → IsSpelledScreen (new_display width height).screen }
+    ensures effect { (width_of : List ℕ → ℕ) (display : Display) (change : ChangeValue) → IsDisplay display
+        → IsSpelledChange change → IsSpelledScreen display.screen
+        → IsSpelledScreen (effect width_of display change).screen }
+    ensures resized { (width : ℕ) (height : ℕ) (display : Display) → IsSpelledScreen display.screen
+        → IsSpelledScreen (resized width height display).screen }
+{}
+
+/// The cells, pens and titles of a new terminal, and the run that it holds, have an encoding, and a terminal
+/// keeps this under events that have it themselves.
+pub fn views_stay_spelled()
+    ensures new { (width : ℕ) (height : ℕ) → IsSpelledView (new_view width height) }
+    ensures event { (width_of : List ℕ → ℕ) (view : View) (event : Event) → IsView view → IsEvent event
+        → IsSpelledView view → IsSpelledEvent event → IsSpelledView (event_done width_of view event) }
+{}
+
+/// Each change that a terminal logs for an event with an encoding has one at the size of the screen before it.
+pub fn logged_changes_have_encodings()
+    ensures { (width_of : List ℕ → ℕ) (view : View) (event : Event) → IsView view → IsSpelledView view
+        → IsSpelledEvent event
+        → HaveEncodings view.state.screen.width (height view.state.screen)
+        (changes_in (event_logged width_of view event)) }
+{}
+
+/// What a stream prints holds no U+0080 to U+009F, and the SGRs, links and titles that it asks for can be
+/// sent.
+pub fn events_are_spelled()
+    ensures { (stream : List ℕ) (history : History) → AreSpelledEvents (events stream history) }
+{
+    one_cut();
+}
+
+/// So the cells, pens and titles of a terminal, and the run that it holds, keep an encoding whatever comes.
+pub fn histories_stay_spelled()
+    ensures { (width_of : List ℕ → ℕ) (view : View) (history : History) → IsView view → AreSizes history
+        → IsSpelledView view → IsSpelledView (after width_of view history) }
+{
+    one_cut();
+}
+
+/// Each change that a log keeps has an encoding at the present size of the screen, whatever comes, and so
+/// has each that is due.
+pub fn kept_changes_have_encodings()
+    ensures event { (width_of : List ℕ → ℕ) (view : View) (event : Event) (log : Sized) → IsView view
+        → IsSpelledView view → IsSpelledEvent event
+        → HaveEncodings view.state.screen.width (height view.state.screen) log.log.entries
+        → HaveEncodings (event_done width_of view event).state.screen.width
+        (height (event_done width_of view event).state.screen)
+        (fold step_of_kept log (event_logged width_of view event)).log.entries }
+    ensures history { (width_of : List ℕ → ℕ) (view : View) (history : History) (log : Sized) → IsView view
+        → AreSizes history → IsSpelledView view
+        → HaveEncodings view.state.screen.width (height view.state.screen) log.log.entries
+        → HaveEncodings (after width_of view history).state.screen.width
+        (height (after width_of view history).state.screen) (log_after width_of view log history).log.entries }
+    ensures due { (width : ℕ) (height : ℕ) (most : ℕ) (log : Log) (number : ℕ) → HaveEncodings width height log.entries
+        → IfSome (due most log number) (HaveEncodings width height) }
+{
+    one_cut();
+}
+
+/// So changes that have encodings have a rendering in turn.
+pub fn spelled_changes_are_rendered()
+    ensures { (width : ℕ) (height : ℕ) (changes : List ChangeValue) → HaveEncodings width height changes
+        → all_rendered changes width height ≢ None }
+{}
+
+/// And what is sent for them to a terminal of some columns and rows, less than 2^32 of each, reads back from
+/// its bytes.
+pub fn spelled_changes_are_writable()
+    ensures { (width : ℕ) (height : ℕ) (changes : List ChangeValue) (actions : List StreamAction) → 0 < width
+        → width < 2 ^ 32 → 0 < height → height < 2 ^ 32 → HaveEncodings width height changes
+        → all_rendered changes width height ≡ Some actions → IsWritable actions }
+{
+    renderings_are_writable();
+    lists_join();
+}

@@ -1,8 +1,0 @@
-use Rattle.terminal_viewers.proofs.RepaintLemmas.{repaint_rest, repaint_sent}
-use Rattle.terminal_viewers.proofs.repaint_laws.repaints_have_spellings.Goals as goal
-
-pub returns-clause-remaining : goal.returns-clause-remaining
-returns-clause-remaining c = repaint_rest
-
-pub returns-clause-all : goal.returns-clause-all
-returns-clause-all c = repaint_sent
