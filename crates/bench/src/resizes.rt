@@ -1,13 +1,12 @@
 //! A terminal that is resized again and again.
-ghost use Rattle.std.specs.Prelude.{◌<◌, ◌^◌};
+ghost use Rattle.cell_base.specs.ScreenSize.{IsScreenSize};
 
 use std::alloc::Global;
 use terminal::{ProgramWidth, Terminal};
 
 // The sizes in turn: columns and rows.
 fn size(number: u32) -> (usize, usize)
-    ensures width { (0 < result.0) × (result.0 < 2 ^ 32) }
-    ensures height { (0 < result.1) × (result.1 < 2 ^ 32) }
+    ensures { IsScreenSize result.0 result.1 }
 {
     match number % 4 {
         0 => (132, 50),

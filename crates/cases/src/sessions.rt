@@ -129,7 +129,7 @@ impl Chain {
         }
         self.answers = self.answers.saturating_add(1);
         if !self.answer(call)? {
-            sheet.word("but another screen behind");
+            sheet.word("but another screen after");
             sheet.show(&self.answers);
         }
         Ok(())

@@ -25,6 +25,7 @@ pub mod SameCell
 pub mod SameLink
 pub mod SameValue
 pub mod Screen
+pub mod ScreenSize
 pub mod KnownWidths
 pub mod WholeRow
 pub mod UpToLast

@@ -2,6 +2,7 @@
 ghost use Rattle.std.specs.Prelude.{◌≡◌, ◌≢◌, ◌≤◌, [], None, OnOk, OnErr, ◌+◌, ◌-◌, ◌<◌, ◌^◌, ◌↔◌, ◌==◌, All, false};
 ghost use Rattle.std.specs.Prelude.{true, length, map, not, IsErrOf, IfOk};
 ghost use Rattle.std.specs.String.{string_bytes};
+ghost use Rattle.cell_base.specs.ScreenSize.{IsScreenSize};
 ghost use Rattle.screen_change.specs.ValueOf.{value_of};
 ghost use Rattle.cell_line.specs.LineContent.{IsClustered};
 ghost use Rattle.cell_surface.specs.Surface.{Adds, AddsAll, Answers, IsSound, Resizes, number_of, shown_by};
@@ -64,8 +65,7 @@ impl<W: Widths + Drop> Surface<W> {
     /// Blanks of this many columns and rows, each from 1 to 2^32 - 1, with a plain pen, the cursor at
     /// home and shown, number 0 and an empty log.
     pub fn new(alloc: Global, width: usize, height: usize, widths: W) -> Result<Self, AllocError>
-        requires width { (0 < width) × (width < 2 ^ 32) }
-        requires height { (0 < height) × (height < 2 ^ 32) }
+        requires size { IsScreenSize width height }
         ensures shown { IfOk result (λ s. shown_by s ≡ new_display width height) }
         ensures widths { IfOk result (λ s. s.grid.widths ≡ widths) }
         ensures log { IfOk result (λ s. s.log.log ≡ new_log) }
@@ -272,8 +272,7 @@ impl<W: Widths + Drop> Surface<W> {
     /// attributes. The cursor stays within the last column and row, so that no wrap is pending. Where
     /// the log isn't empty the number rises by one and the log is emptied.
     pub fn resize(&mut self, width: usize, height: usize) -> Result<(), SurfaceError>
-        requires width { (0 < width) × (width < 2 ^ 32) }
-        requires height { (0 < height) × (height < 2 ^ 32) }
+        requires size { IsScreenSize width height }
         ensures resized { OnOk result (Resizes width height self.old self.new) }
         ensures failed { IsErrOf result SurfaceError.Failed ↔ (self.old.is_failed ≡ true) }
         ensures numbers { IsErrOf result SurfaceError.Number

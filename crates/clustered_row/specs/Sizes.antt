@@ -1,6 +1,6 @@
 -- A text with the sizes of its first cells; after these each byte is a plain cell.
-use Rattle.std.specs.Prelude.{ℕ, ◌+◌, Bool, true, false, ◌&&◌, not, ◌==◌, List, [], ◌∷◌, ◌++◌, take, drop}
-use Rattle.std.specs.Prelude.{if◌then◌else◌}
+use Rattle.std.specs.Prelude.{◌≡◌, ℕ, ◌+◌, Bool, true, false, ◌&&◌, not, ◌==◌, List, [], ◌∷◌, ◌++◌, take, drop}
+use Rattle.std.specs.Prelude.{if◌then◌else◌, length}
 use Rattle.std.specs.List.{list_all}
 use Rattle.std.specs.Str.{is_utf8}
 use Rattle.text_clusters.specs.Plain.{is_printable}
@@ -45,3 +45,8 @@ is_text size text = if is_plain size then list_all is_printable text else is_utf
 abbrev pub is_cut : List ℕ → List CellSize → Bool
 is_cut text [] = list_all is_printable text
 is_cut text (size ∷ sizes) = is_text size (take size.len text) && is_cut (drop size.len text) sizes
+
+-- the sizes are of all cells of a text
+pub record AreSizes (text : List ℕ) (sizes : List CellSize) : Type 0 where
+  pub parts : is_cut text sizes ≡ true
+  pub bytes : bytes_of sizes ≡ length text

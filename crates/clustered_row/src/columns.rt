@@ -7,7 +7,7 @@ ghost use Rattle.cell_base.specs.Row.{blank, closed_end, set_columns};
 ghost use Rattle.cell_base.specs.WholeRow.{IsWhole};
 ghost use Rattle.clustered_row.specs.Ends.{EndsAt};
 ghost use Rattle.clustered_row.specs.Faces.{plain_faces, row_of};
-ghost use Rattle.clustered_row.specs.Sizes.{bytes_of, columns_of, faces_of, is_cut};
+ghost use Rattle.clustered_row.specs.Sizes.{AreSizes, columns_of, faces_of};
 
 use crate::cell_size::CellSize;
 use crate::runs::Runs;
@@ -132,8 +132,7 @@ impl Columns {
         count: usize,
         attrs: &CellAttributes,
     ) -> Result<(), AllocError>
-        requires parts { is_cut text.now sizes.now ≡ true }
-        requires bytes { bytes_of sizes.now ≡ length text.now }
+        requires sizes { AreSizes text.now sizes.now }
         requires count { count ≡ columns_of sizes.now }
         requires small { length self.old + count < 2 ^ 64 }
         ensures done { OnOk result
@@ -191,8 +190,7 @@ impl Columns {
         count: usize,
         attrs: &CellAttributes,
     ) -> Result<(), AllocError>
-        requires parts { is_cut text.now sizes.now ≡ true }
-        requires bytes { bytes_of sizes.now ≡ length text.now }
+        requires sizes { AreSizes text.now sizes.now }
         requires count { count ≡ columns_of sizes.now }
         requires within { at + count ≤ length self.old }
         requires small { at + count < 2 ^ 64 }

@@ -9,7 +9,7 @@ ghost use Rattle.clustered_row.specs.declared.cell_size.CellSize.{CellSize};
 ghost use Rattle.clustered_row.specs.Faces.{plain_faces, padded, opened, closed_end, set_faces};
 ghost use Rattle.clustered_row.specs.LentTexts.{IsLentAt};
 ghost use Rattle.clustered_row.specs.Position.{IsPosition, IsSplit, KeepsPositions, HasPlainCell};
-ghost use Rattle.clustered_row.specs.Sizes.{bytes_of, columns_of, faces_of, is_cut, ends_plain};
+ghost use Rattle.clustered_row.specs.Sizes.{AreSizes, bytes_of, columns_of, faces_of, is_cut, ends_plain};
 
 use crate::cell_size::{CellSize, PLAIN};
 use crate::items::{push_all, push_bytes, put, replace_items, replace_text};
@@ -297,8 +297,7 @@ impl CutText {
 
     // Appends cells that take `columns` columns; there is room for them.
     pub(crate) fn push_cells(&mut self, text: &str, sizes: &[CellSize], columns: usize)
-        requires parts { is_cut text.now sizes.now ≡ true }
-        requires bytes { bytes_of sizes.now ≡ length text.now }
+        requires sizes { AreSizes text.now sizes.now }
         requires columns { columns_of sizes.now ≡ columns }
         requires room { length text.now ≤ bytes_left self.old }
         requires kept { length (shown self.old) + length sizes.now ≤ self.old.sized_columns + sizes_left self.old }
@@ -317,8 +316,7 @@ impl CutText {
         requires from { IsPosition self.old.sizes.items from }
         requires to { IsPosition self.old.sizes.items to }
         requires order { from.index ≤ to.index }
-        requires parts { is_cut text.now sizes.now ≡ true }
-        requires bytes { bytes_of sizes.now ≡ length text.now }
+        requires sizes { AreSizes text.now sizes.now }
         requires columns { from.columns + columns_of sizes.now ≡ to.columns }
         requires room { length text.now ≤ bytes_left self.old }
         requires room_sizes { length sizes.now ≤ sizes_left self.old }
@@ -384,8 +382,7 @@ impl CutText {
 
     // The columns from `from` on and before `to` show other cells.
     pub(crate) fn splice(&mut self, from: usize, to: usize, text: &str, sizes: &[CellSize])
-        requires parts { is_cut text.now sizes.now ≡ true }
-        requires bytes { bytes_of sizes.now ≡ length text.now }
+        requires sizes { AreSizes text.now sizes.now }
         requires columns { from + columns_of sizes.now ≡ to }
         requires within { to ≤ length (shown self.old) }
         requires room { length text.now + 3 ≤ bytes_left self.old }

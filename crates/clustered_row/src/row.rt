@@ -6,7 +6,7 @@ ghost use Rattle.cell_base.specs.Row.{blank, plain_row, set_columns};
 ghost use Rattle.cell_base.specs.WholeRow.{IsWhole};
 ghost use Rattle.cell_edits.specs.RowEdits.{resized};
 ghost use Rattle.clustered_row.specs.Faces.{plain_faces, row_of};
-ghost use Rattle.clustered_row.specs.Sizes.{bytes_of, columns_of, faces_of, is_cut};
+ghost use Rattle.clustered_row.specs.Sizes.{AreSizes, columns_of, faces_of};
 
 use crate::cell_size::CellSize;
 use crate::columns::Columns;
@@ -141,8 +141,7 @@ impl ClusteredRow {
         count: usize,
         attrs: &CellAttributes,
     ) -> Result<(), AllocError>
-        requires parts { is_cut text.now sizes.now ≡ true }
-        requires bytes { bytes_of sizes.now ≡ length text.now }
+        requires sizes { AreSizes text.now sizes.now }
         requires count { count ≡ columns_of sizes.now }
         requires within { at + count ≤ length self.old }
         ensures len { length self.new ≡ length self.old }

@@ -5,7 +5,7 @@ ghost use Rattle.std.specs.List.{list_all};
 ghost use Rattle.text_clusters.specs.Plain.{is_printable};
 ghost use Rattle.clustered_row.specs.Faces.{plain_faces, padded, closed_end, set_faces};
 ghost use Rattle.clustered_row.specs.LentTexts.{IsLentAt};
-ghost use Rattle.clustered_row.specs.Sizes.{bytes_of, columns_of, ends_plain, faces_of, is_cut};
+ghost use Rattle.clustered_row.specs.Sizes.{AreSizes, columns_of, ends_plain, faces_of};
 
 use crate::cell_size::CellSize;
 use crate::cut_text::CutText;
@@ -123,8 +123,7 @@ impl Texts {
         sizes: &[CellSize],
         columns: usize,
     ) -> Result<(), AllocError>
-        requires parts { is_cut text.now sizes.now ≡ true }
-        requires bytes { bytes_of sizes.now ≡ length text.now }
+        requires sizes { AreSizes text.now sizes.now }
         requires columns { columns_of sizes.now ≡ columns }
         ensures done { OnOk result (faces self.new ≡ faces self.old ++ faces_of text.now sizes.now) }
         ensures refused { OnErr result (faces self.new ≡ faces self.old) }
@@ -188,8 +187,7 @@ impl Texts {
         text: &str,
         sizes: &[CellSize],
     ) -> Result<(), AllocError>
-        requires parts { is_cut text.now sizes.now ≡ true }
-        requires bytes { bytes_of sizes.now ≡ length text.now }
+        requires sizes { AreSizes text.now sizes.now }
         requires columns { from + columns_of sizes.now ≡ to }
         requires within { to ≤ length (faces self.old) }
         ensures done { OnOk result (faces self.new ≡ set_faces (faces self.old) from (faces_of text.now sizes.now)) }

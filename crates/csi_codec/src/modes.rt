@@ -21,19 +21,30 @@ use std::fmt;
 /// A private mode that has a name (xterm: DECSET, DECRST).
 #[derive(Clone, Copy, Debug, PartialEq, Eq)]
 pub enum DecPrivateModeCode {
+    /// DECCKM.
     ApplicationCursorKeys = 1,
+    /// DECANM.
     DecAnsiMode = 2,
+    /// DECCOLM.
     Select132Columns = 3,
+    /// DECSCLM.
     SmoothScroll = 4,
+    /// DECSCNM.
     ReverseVideo = 5,
+    /// DECOM.
     OriginMode = 6,
+    /// DECAWM.
     AutoWrap = 7,
+    /// DECARM.
     AutoRepeat = 8,
     StartBlinkingCursor = 12,
+    /// DECTCEM.
     ShowCursor = 25,
     ReverseWraparound = 45,
     EnableAlternateScreen = 47,
+    /// DECLRMM.
     LeftRightMarginMode = 69,
+    /// DECSDM.
     SixelDisplayMode = 80,
     MouseTracking = 1000,
     HighlightMouseTracking = 1001,
@@ -113,10 +124,15 @@ impl DecPrivateModeCode {
 /// A mode of the standard that has a name (ECMA-48 7, and 8.3.125 SM).
 #[derive(Clone, Copy, Debug, PartialEq, Eq)]
 pub enum TerminalModeCode {
+    /// KAM.
     KeyboardAction = 2,
+    /// IRM.
     Insert = 4,
+    /// BDSM.
     BiDirectionalSupportMode = 8,
+    /// SRM.
     SendReceive = 12,
+    /// LNM.
     AutomaticNewline = 20,
     ShowCursor = 25,
 }
@@ -162,11 +178,17 @@ pub enum TerminalMode {
 /// What becomes of a mode.
 #[derive(Clone, Copy, Debug, PartialEq, Eq)]
 pub enum Mode {
+    /// DECSET.
     SetDecPrivateMode(DecPrivateMode),
+    /// DECRST.
     ResetDecPrivateMode(DecPrivateMode),
+    /// XTSAVE.
     SaveDecPrivateMode(DecPrivateMode),
+    /// XTRESTORE.
     RestoreDecPrivateMode(DecPrivateMode),
+    /// SM.
     SetMode(TerminalMode),
+    /// RM.
     ResetMode(TerminalMode),
 }
 

@@ -95,6 +95,8 @@ fresh_left old new b e w v l = record {
   alone = l.alone;
 }
 
+pub ruleset fresh_byte = (fresh_goes, fresh_left)
+
 -- ---- a byte after a C2
 
 c1_at : (h : Held) (b : ℕ) → h.waiting ≡ true → is_c1 0xC2 b ≡ true → held_step h b ≡ (let escape = kept_step h.kept 0x1B in handed_after escape (handed (kept_step escape.kept (b - 0x40)) false))

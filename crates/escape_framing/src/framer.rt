@@ -117,7 +117,7 @@ impl Framer {
     }
 
     // A byte where no C2 waits.
-    #[tactic(auto, unfolding(crate::specs::Held::fresh_step), using(crate::proofs::EventLemmas::fresh_goes, crate::proofs::EventLemmas::fresh_left))]
+    #[tactic(auto, unfolding(crate::specs::Held::fresh_step), using(crate::proofs::EventLemmas::fresh_byte))]
     fn fresh(&mut self, byte: u8) -> Result<Stepped, AllocError>
         requires { self.old.held.waiting ≡ false }
         ensures steps { IfOk result (λ s. fresh_step self.old.held.kept byte ≡ as_advanced self.new s byte) }

@@ -43,6 +43,8 @@ joined_next {P} text_of text rest i part below item =
 pub joined_end : {P : Type 0} (text_of : P → List ℕ) (text : List ℕ) (rest : List P) (i : ℕ) → length rest ≤ i → text ++ after (map text_of (drop i rest)) ≡ text
 joined_end {P} text_of text rest i h = at_drop_all (λ (ps : List P). text ++ after (map text_of ps)) rest i h ∙ append-nil text
 
+pub ruleset joined_steps = (joined_start, joined_next, joined_end)
+
 -- ---- a walk that copies them, with the copies so far
 
 pub copied_next : (copies : List (Vec ℕ Global)) (parts : List (Bor (List ℕ))) (i : ℕ) (part : Bor (List ℕ)) (copy : Vec ℕ Global) → i < length parts → part ≡ get_or parts i part → copy.items ≡ part.now

@@ -54,3 +54,5 @@ pub link_none : (reading : Result (Option Link) LinkError) (e : LinkError) → e
 link_none (Ok other) e other_than (inl is) = cc
 link_none (Ok other) e other_than (inr is) = let same : e ≡ Memory = cc in absurd (other_than same)
 link_none (Err other) e other_than is = refl
+
+pub ruleset link_read = (link_some, link_none)

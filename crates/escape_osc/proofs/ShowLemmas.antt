@@ -82,6 +82,8 @@ row_passed rows i letter d bits below other whole =
 pub row_none : (i letter : ℕ) → 13 ≤ i → row_bits letter (drop i LETTERS) ≡ None
 row_none i letter h = at_drop_all (λ rs. row_bits letter rs) LETTERS i h
 
+pub ruleset row_steps = (row_found, row_passed, row_none)
+
 -- the two steps of a walk over the table, by whether the letter's selection is held
 module _ {W : Type 0} (took : W → List ℕ → W → Type 0) where
   pub letter_written : (f g h : Formatter W) (bits : ℕ) (rows : List (ℕ × Selection)) (i : ℕ) (d : ℕ × Selection) (held : Bool) → i < length rows

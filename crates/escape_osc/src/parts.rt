@@ -21,7 +21,7 @@ pub(crate) fn any_holds_c1(parts: &[&[u8]]) -> bool
 }
 
 // Appends the parts, joined by `;`. Where memory is refused, what was appended before stays.
-#[tactic(auto, using(crate::proofs::PartsLemmas::joined_start, crate::proofs::PartsLemmas::joined_next, crate::proofs::PartsLemmas::joined_end, crate::proofs::AppendLemmas::kept))]
+#[tactic(auto, using(crate::proofs::PartsLemmas::joined_steps, crate::proofs::AppendLemmas::kept))]
 pub(crate) fn append_joined<P: AsSlice<u8>>(
     parts: &[P],
     dest: &mut Vec<u8>,

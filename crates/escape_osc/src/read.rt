@@ -121,7 +121,7 @@ fn read_selection(
 }
 
 // The link of all parts.
-#[tactic(auto, using(crate::proofs::ReadingLemmas::link_some, crate::proofs::ReadingLemmas::link_none), unfolding(crate::specs::Reading::link_command))]
+#[tactic(auto, using(crate::proofs::ReadingLemmas::link_read), unfolding(crate::specs::Reading::link_command))]
 fn read_link(alloc: Global, parts: &[&[u8]]) -> Result<Option<OperatingSystemCommand>, AllocError>
     ensures { IfOk result (λ o. option_map command_of o ≡ link_command (map (λ p. p.now) parts.now)) }
 {

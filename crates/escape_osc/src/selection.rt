@@ -107,7 +107,7 @@ impl Selection {
     ];
 
     // The selection of one letter.
-    #[tactic(auto, using(crate::proofs::ShowLemmas::row_found, crate::proofs::ShowLemmas::row_passed, crate::proofs::ShowLemmas::row_none))]
+    #[tactic(auto, using(crate::proofs::ShowLemmas::row_steps))]
     fn from_letter(letter: u8) -> Option<Selection>
         ensures { option_map bits_of result ≡ letter_bits letter }
     {

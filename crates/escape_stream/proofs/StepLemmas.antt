@@ -132,12 +132,9 @@ walks_up_to does old first last stream bytes held none is whole w =
     by_case (inr f) = inr (f (length stream))
 
 -- so these bytes take some
-pub takes_some : {P : Type 0} (does : P → Item → P → Type 0) (first last : P) (stream bytes : List ℕ) → PerformsUpToMemory does first stream bytes last → BytesTakeMemory stream bytes
-takes_some does first last stream bytes p = by_case p.takes
-  where
-    by_case : TakesMemoryBefore stream bytes p.left → BytesTakeMemory stream bytes
-    by_case (inl (n, within, body, left)) = inl (n, within, body)
-    by_case (inr next) = inr (record { done = p.done; left = p.left; whole = p.whole; takes = next })
+pub takes_some : (stream bytes : List ℕ) (done left : List Piece) → pieces stream bytes ≡ done ++ left → TakesMemoryBefore stream bytes left → BytesTakeMemory stream bytes
+takes_some stream bytes done left whole (inl (n, within, body, none)) = inl (n, within, body)
+takes_some stream bytes done left whole (inr next) = inr (record { done = done; left = left; whole = whole; takes = next })
 
 -- ---- a refusal
 

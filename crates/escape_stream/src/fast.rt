@@ -1,11 +1,8 @@
 //! Shortcuts: one reads a command that is whole at the start of the remaining bytes without a copy, another reads a
-//! command of few parts without a list of them, and one takes the bytes of a text in ASCII as its characters. A reader
-//! may skip this module: each shortcut finds what the general way does, or returns `None`, which leaves all to the
-//! general way.
+//! command of few parts without a list of them. A reader may skip this module: each shortcut finds what the general way
+//! does, or returns `None`, which leaves all to the general way.
 
-mod ascii;
 mod command;
 mod parts;
 
-pub(crate) use ascii::{bytes_of_ascii, call_at_bytes};
 pub(crate) use parts::command_of_short;

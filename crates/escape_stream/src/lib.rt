@@ -10,9 +10,8 @@
 //! - `engine`: the walk over the bytes of a call, which finds each text and each action and hands it to a
 //!   performer.
 //! - `event_actions`: the actions of events that are no control sequences.
-//! - `fast`: shortcuts: one reads a command that is whole at the start of the remaining bytes without a copy,
-//!   another reads a command of few parts without a list of them, and one takes the bytes of a text in ASCII as
-//!   its characters.
+//! - `fast`: shortcuts: one reads a command that is whole at the start of the remaining bytes without a copy, another
+//!   reads a command of few parts without a list of them.
 //! - `first`: the first action of some bytes, or all that its last byte decides.
 //! - `handover`: `Parser::hand_to`: hands what is read to a performer.
 //! - `parse`: the actions of bytes, called at one by one, or as a list.

@@ -9,7 +9,6 @@ ghost use Rattle.escape_stream.specs.StreamActions.{newly_decided_actions};
 ghost use Rattle.escape_stream.specs.Parsing.{IsCalledAt};
 
 use crate::action::Action;
-use crate::fast::{bytes_of_ascii, call_at_bytes};
 use crate::parser::Parser;
 use crate::perform::Perform;
 use escape_framing::ParseError;
@@ -23,18 +22,6 @@ fn call_at_chars<F: FnMut(Action)>(text: &str, callback: &mut F)
 {
     for character in text.chars() {
         callback(Action::Print(character));
-    }
-}
-
-// Calls the callback at a print of each character.
-fn call_at_text<F: FnMut(Action)>(text: &str, callback: &mut F)
-    requires { F.IsAlwaysCallable callback.old }
-    ensures called { IsCalledAt (λ f a f'. F.step f a tt f') callback.old (map print (chars text.now)) callback.new }
-    ensures callable { F.IsAlwaysCallable callback.new }
-{
-    match bytes_of_ascii(text) {
-        Some(bytes) => call_at_bytes(bytes, callback),
-        None => call_at_chars(text, callback),
     }
 }
 
@@ -59,7 +46,7 @@ impl<'t, F: FnMut(Action)> Perform<'t> for Calls<F> {
 
     #[inline(always)]
     fn text(&mut self, text: &'t str) -> Result<(), AllocError> {
-        call_at_text(text, &mut self.callback);
+        call_at_chars(text, &mut self.callback);
         Ok(())
     }
 

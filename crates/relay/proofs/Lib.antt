@@ -1,5 +1,6 @@
 pub mod Numbers
 pub mod Flags
+mod FaultLemmas
 mod OutputLemmas
 mod SettingFaults
 mod SettingLemmas

@@ -1,13 +1,24 @@
--- A writer that holds what it held, and why the status is 2.
-use Rattle.std.proofs.Common.{◌≡◌, ◌≢◌, ◌⊎◌, ℕ, inl, inr, List, [], Option, Some, None, sym, ◌∙◌, append-nil, arith, refl}
+-- A writer that holds what it held, why the status is 2, and what is said where it is 1.
+use Rattle.std.proofs.Common.{◌≡◌, ◌≢◌, ◌⊎◌, ℕ, inl, inr, Bool, true, false, List, [], ◌∷◌, ◌++◌, Option, Some, None, sym, ◌∙◌, append-nil, ap, arith, codes, refl, subst, Result, Err}
 use Rattle.std.specs.Io.KnownBytes.{Appends, Keeps}
-use Rattle.std.specs.Prelude.{IfSome}
+use Rattle.std.specs.Prelude.{IfSome, if◌then◌else◌}
+use Rattle.cell_base.specs.Cluster.{program_width}
+use Rattle.terminal.specs.Refusals.{all_looks, one_look}
 use Rattle.terminal.specs.Shown.{AppendsPrefix}
+use Rattle.terminal.specs.Watched.{Watched}
+use Rattle.terminal.specs.declared.error.RunError.{RunError}
+use Rattle.terminal.specs.declared.error.RunError.TheVariants as run
+use Rattle.terminal.proofs.ReadAllLemmas.{nothing_read}
+use Rattle.terminal_steps.specs.declared.error.TerminalError.TheVariants as terminal
 use Rattle.clap.specs.Kinds.{HasKind}
-use Rattle.clap.specs.Words.{Kinds, kind_of}
+use Rattle.clap.specs.Words.{Kinds, Text, kind_of}
 use Rattle.clap.specs.declared.error.Error.{Error}
 use Rattle.clap.specs.declared.error.kind.ErrorKind.TheVariants as kind
-use Rattle.relay.specs.CommandLine.{HasMistake}
+use Rattle.relay.specs.CommandLine.{HasMistake, width_in, height_in, every_in, show_in}
+use Rattle.relay.specs.Faults.{IsReported, fault_line, fault_text}
+use Rattle.relay.specs.Lent.{named}
+use Rattle.relay.specs.Output.{MemoryRunsOut}
+use Rattle.relay.specs.Reports.{EndsWithFault, ReportsFault}
 
 nothing_appended : (old new : Option (List ℕ)) → Keeps old new → Appends old new []
 nothing_appended None new kept = tt
@@ -26,3 +37,67 @@ pub mistake_in : (kinds : Kinds) (error : Error) (status : ℕ) → HasKind kind
     → ((kind_of error ≡ kind.DisplayHelp) ⊎ (kind_of error ≡ kind.DisplayVersion) → status ≢ 2) → status ≡ 2 → HasMistake kinds
 mistake_in kinds error status (inl none) memory shown bad = let one : status ≡ 1 = memory none in absurd (omega arith)
 mistake_in kinds error status (inr among) memory shown bad = (kind_of error, among, λ h. shown (inl h) bad, λ v. shown (inr v) bad)
+
+-- ---- reports
+
+-- a run that ended with a fault is reported with its text
+pub reported_as : {F : Type 0} (contents : F → Option (List ℕ)) (old new : Watched F) (error fault : RunError) (status code : ℕ) (text : List ℕ) → ◌≡◌ {A = Result (Unit {0}) RunError} (Err error) (Err fault)
+    → text ≡ fault_text error → status ≡ code → IsReported contents old new (fault_line text) → (status ≡ code) × IsReported contents old new (fault_line (fault_text fault))
+reported_as contents old new error fault status code text e is one reported =
+    let same : error ≡ fault = cc in
+    (one, subst (λ t. IsReported contents old new (fault_line t)) (is ∙ ap fault_text same) reported)
+
+-- an error is want of memory where its words are a command line that can be run
+pub of_memory : (kinds : Kinds) (error : Error) → HasKind kinds error → kinds ≡ [] → kind_of error ≡ kind.OutOfMemory
+of_memory kinds error (inl none) run = none
+of_memory [] error (inr among) run = absurd among
+of_memory (k ∷ kinds) error (inr among) run = absurd cc
+
+-- nothing was read yet
+memory_first : (is_show : Bool) (width height every : ℕ) (input : Option (List ℕ)) → IfSome input (MemoryRunsOut is_show width height every input)
+memory_first true width height every input = nothing_read program_width width height one_look input refl
+memory_first false width height every input = nothing_read program_width width height (all_looks every) input refl
+
+-- so memory may be named then
+pub reports_first : (words : List Text) (old new input : Option (List ℕ)) → AppendsPrefix old new (fault_line (codes "out of memory"))
+    → IfSome input (ReportsFault words input old new)
+reports_first words old new None written = tt
+reports_first words old new (Some bytes) written = record {
+  fault = run.Terminal terminal.Memory;
+  right = memory_first (show_in words) (width_in words) (height_in words) (every_in words) (Some bytes);
+  written = written;
+}
+
+same_name : (m n : ℕ) (old new gained : List ℕ) → n ∷ new ≡ m ∷ (old ++ gained) → (n ≡ m) × (new ≡ old ++ gained)
+same_name m n old new gained e = (cc, cc)
+
+-- what appends to the bytes of a lent writer has not put another in its place
+lent_appends : {S : Type 0} (contents : S → Option (List ℕ)) (m n : ℕ) (before after end : S) (gained : List ℕ) → (m ≡ n → end ≡ after)
+    → Appends (named m (contents before)) (named n (contents after)) gained → Appends (contents before) (contents end) gained
+lent_appends contents m n before after end gained is appends = by_known (contents before) (contents after) refl appends
+  where
+    by_known : (old new : Option (List ℕ)) → contents after ≡ new → Appends (named m old) (named n new) gained → Appends old (contents end) gained
+    by_known None new e appends = tt
+    by_known (Some bytes) None e appends = absurd appends
+    by_known (Some bytes) (Some held) e appends =
+        let same = same_name m n bytes held gained appends in
+        let held_is : contents end ≡ Some held = ap contents (is (sym same.0)) ∙ e in
+        subst (λ new. Appends (Some bytes) new gained) (sym held_is) same.1
+
+-- what a lent writer of faults was given, the writer was
+pub lent_reports : {S : Type 0} (contents : S → Option (List ℕ)) (words : List Text) (left : Option (List ℕ)) (m n : ℕ) (before after end : S) (input : Option (List ℕ)) → (m ≡ n → end ≡ after)
+    → IfSome input (ReportsFault words left (named m (contents before)) (named n (contents after))) → IfSome input (EndsWithFault words (contents before) (contents end))
+lent_reports contents words left m n before after end None is reports = tt
+lent_reports contents words left m n before after end (Some x) is reports = (
+  left,
+  record {
+    fault = reports.fault;
+    right = reports.right;
+    written = record {
+      written = reports.written.written;
+      remaining = reports.written.remaining;
+      whole = reports.written.whole;
+      appends = lent_appends contents m n before after end reports.written.written is reports.written.appends;
+    };
+  },
+)

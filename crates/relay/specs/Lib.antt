@@ -2,4 +2,5 @@ pub mod CommandLine
 pub mod Faults
 pub mod Lent
 pub mod Output
+pub mod Reports
 pub mod Settings

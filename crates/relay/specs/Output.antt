@@ -1,7 +1,8 @@
 -- What the program writes.
-use Rattle.std.specs.Prelude.{ℕ, ◌≤◌, ◌^◌, Bool, List, [], ◌∷◌, if◌then◌else◌}
+use Rattle.std.specs.Prelude.{ℕ, ◌≤◌, ◌^◌, Bool, List, [], ◌∷◌, Option, if◌then◌else◌}
 use Rattle.clap.specs.Words.{Text}
 use Rattle.cell_base.specs.Cluster.{program_width}
+use Rattle.terminal.specs.Refusals.{IsRefusedMemory, all_looks, one_look}
 use Rattle.terminal.specs.Written.{number_after}
 use Rattle.terminal.specs.Shown.{rows_shown}
 use Rattle.terminal_table.specs.History.{Piece, Look}
@@ -19,6 +20,11 @@ abbrev pub NumbersRunOut : Bool → ℕ → ℕ → ℕ → List ℕ → Type 0
 NumbersRunOut is_show width height every input =
     2 ^ 64 ≤ (if is_show then (log_of program_width width height (Piece input ∷ Look ∷ [])).log.number
     else number_after program_width every (new_standing width height) input)
+
+-- memory is refused after a part of an input was read, as it is to `show` or to `run`
+abbrev pub MemoryRunsOut : Bool → ℕ → ℕ → ℕ → Option (List ℕ) → List ℕ → Type 0
+MemoryRunsOut is_show width height every left input =
+    IsRefusedMemory program_width (new_standing width height) (if is_show then one_look else all_looks every) input left
 
 -- as the words ask for it
 abbrev pub written_in : List Text → List ℕ → List ℕ

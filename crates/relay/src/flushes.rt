@@ -101,7 +101,7 @@ fn help_is_flushed_once(rt: HostRuntime) {
 }
 
 // The words have that status where the message can't be flushed.
-fn assert_untold<R: Abort + AllocGlobal>(rt: &R, words: &[&str], flushes: usize, expected: u8) {
+fn assert_unreported<R: Abort + AllocGlobal>(rt: &R, words: &[&str], flushes: usize, expected: u8) {
     let mut output = writer_of(rt.alloc(), flushes);
     let mut faults = writer_of(rt.alloc(), 0);
     let mut input = b"abc".as_slice();
@@ -111,9 +111,9 @@ fn assert_untold<R: Abort + AllocGlobal>(rt: &R, words: &[&str], flushes: usize,
 
 #[test]
 fn statuses_stay_where_faults_are_not_flushed(rt: HostRuntime) {
-    assert_untold(&rt, &["relay", "--width", "0"], 9, 2);
-    assert_untold(&rt, &SHOW, 0, 1);
-    assert_untold(&rt, &["relay", "--help"], 0, 1);
+    assert_unreported(&rt, &["relay", "--width", "0"], 9, 2);
+    assert_unreported(&rt, &SHOW, 0, 1);
+    assert_unreported(&rt, &["relay", "--help"], 0, 1);
 }
 
 const ILL_FORMED: &str = "\

@@ -1,13 +1,14 @@
 //! The program on its words and streams.
-ghost use Rattle.std.specs.Prelude.{false, ◌≡◌, ◌≢◌, ◌⊎◌, ◌↔◌, ◌≤◌, ◌^◌, [], codes, map};
-ghost use Rattle.std.specs.Prelude.{IfSome, IsErrOf, IsTrue, OnOk, OnErr};
+ghost use Rattle.std.specs.Prelude.{false, ◌≡◌, ◌≢◌, ◌⊎◌, ◌↔◌, ◌||◌, ◌≤◌, ◌^◌, [], codes, is_err, map};
+ghost use Rattle.std.specs.Prelude.{IfSome, IsErr, IsErrOf, IsTrue, OnOk, OnErr};
 ghost use Rattle.std.specs.Io.KnownBytes.{Appends, Keeps};
 ghost use Rattle.terminal.specs.Shown.{AppendsPrefix};
 ghost use Rattle.terminal.specs.Watched.{IsUnread};
 ghost use Rattle.clap.specs.Words.{IsAmong, kind_of};
 ghost use Rattle.relay.specs.CommandLine.{HasMistake, faults_in};
 ghost use Rattle.relay.specs.Faults.{IsReported, fault_line, fault_text};
-ghost use Rattle.relay.specs.Output.{NumbersRunOut, written, written_in};
+ghost use Rattle.relay.specs.Output.{MemoryRunsOut, NumbersRunOut, written, written_in};
+ghost use Rattle.relay.specs.Reports.{EndsWithFault, ReportsFault};
 
 use crate::lent::Lent;
 use crate::options;
@@ -23,15 +24,30 @@ const FAULT: u8 = 1;
 
 const BAD_WORDS: u8 = 2;
 
+// Writes the line on a fault.
+#[tactic(auto, using(crate::proofs::FaultLemmas::line_parts))]
+fn write_line<F: Write>(faults: &mut Watched<F>, fault: &str) -> Result<(), RunError>
+    ensures ok { OnOk result
+        (Appends (F.contents faults.old.inner) (F.contents faults.new.inner) (fault_line fault.now)) }
+    ensures err { OnErr result
+        (AppendsPrefix (F.contents faults.old.inner) (F.contents faults.new.inner) (fault_line fault.now)) }
+    ensures only { IsErr result → IsErrOf result RunError.Write }
+    ensures failed { faults.new.has_failed ≡ (faults.old.has_failed || is_err result) }
+{
+    faults.write_all(b"relay: ")?;
+    faults.write_all(fault.as_bytes())?;
+    faults.write_all(b"\n")
+}
+
 /// Writes a line on what went wrong. That it can't be written is dropped.
 pub fn report<F: Write>(faults: &mut Watched<F>, fault: &str) -> u8
     ensures status { result ≡ FAULT }
     ensures reported { IsReported (λ f. F.contents f) faults.old faults.new (fault_line fault.now) }
+    ensures written { AppendsPrefix (F.contents faults.old.inner) (F.contents faults.new.inner) (fault_line fault.now) }
 {
-    let _ = faults.write_all(b"relay: ").is_ok()
-        && faults.write_all(fault.as_bytes()).is_ok()
-        && faults.write_all(b"\n").is_ok()
-        && faults.flush().is_ok();
+    if write_line(faults, fault).is_ok() {
+        let _ = faults.flush();
+    }
     FAULT
 }
 
@@ -93,6 +109,8 @@ fn explain<T: Write, F: Write>(
     ensures nothing { kind_of error.now ≡ ErrorKind.OutOfMemory
         → Keeps (T.contents writer.old.inner) (T.contents writer.new.inner) }
     ensures refused { result ≡ BAD_WORDS → Keeps (T.contents writer.old.inner) (T.contents writer.new.inner) }
+    ensures written { kind_of error.now ≡ ErrorKind.OutOfMemory → AppendsPrefix (F.contents faults.old.inner)
+        (F.contents faults.new.inner) (fault_line (codes "out of memory")) }
     ensures unwritten { IsTrue writer.new.has_failed → (result ≡ FAULT)
         × IsReported (λ f. F.contents f) faults.old faults.new (fault_line (codes "cannot write")) }
     ensures unrendered { result ≡ FAULT → writer.new.has_failed ≡ false
@@ -133,8 +151,11 @@ fn answer<R: Read, T: Write>(
     ensures read { IsErrOf result RunError.Read ↔ IsTrue reader.new.has_failed }
     ensures write { IsErrOf result RunError.Write ↔ IsTrue writer.new.has_failed }
     ensures too_long { IsErrOf result RunError.TooLong → reader.new.reads ≡ 2 ^ 48 }
+    ensures failed { IsErrOf result (RunError.Terminal TerminalError.Failed) → ⊥ }
     ensures number { IsErrOf result (RunError.Terminal TerminalError.Number) → IfSome (R.remaining reader.old.inner)
         (NumbersRunOut options.is_show options.width options.height options.every) }
+    ensures memory { IsErrOf result (RunError.Terminal TerminalError.Memory) → IfSome (R.remaining reader.old.inner)
+        (MemoryRunsOut options.is_show options.width options.height options.every (R.remaining reader.new.inner)) }
     // After a fault of the reader or the writer it is not called again.
     ensures ends_reads { reader.new.has_gone_on ≡ reader.old.has_gone_on }
     ensures ends_writes { writer.new.has_gone_on ≡ writer.old.has_gone_on }
@@ -153,7 +174,6 @@ fn answer<R: Read, T: Write>(
 }
 
 // Does what the words ask for, and reports a fault.
-#[tactic(auto, using(crate::proofs::OutputLemmas::none_of))]
 fn relay<S: AsStr, R: Read, T: Write, F: Write>(
     alloc: Global,
     words: &[S],
@@ -181,6 +201,9 @@ fn relay<S: AsStr, R: Read, T: Write, F: Write>(
         × IsReported (λ f. F.contents f) faults.old faults.new (fault_line (codes "cannot read")) }
     ensures write { IsTrue writer.new.has_failed → (result ≡ FAULT)
         × IsReported (λ f. F.contents f) faults.old faults.new (fault_line (codes "cannot write")) }
+    ensures fault { faults_in (map S.text words.now) ≡ [] → result ≢ 0 → IfSome (R.remaining reader.old.inner)
+        (ReportsFault (map S.text words.now) (R.remaining reader.new.inner) (F.contents faults.old.inner)
+        (F.contents faults.new.inner)) }
 {
     let options = match options::read(alloc, words) {
         Ok(options) => options,
@@ -199,6 +222,7 @@ fn relay<S: AsStr, R: Read, T: Write, F: Write>(
 /// It answers the status: 0; or 1 with one line on `faults`, where reading, writing, memory or numbers
 /// failed or the input was too long, and then the first bytes may have been written; or 2 with a text on
 /// `faults` for a bad command line, and then none were.
+#[tactic(auto, using(crate::proofs::OutputLemmas::lent_reports))]
 pub fn serve<S: AsStr, R: Read, T: Write, F: Write>(
     alloc: Global,
     words: &[S],
@@ -224,6 +248,9 @@ pub fn serve<S: AsStr, R: Read, T: Write, F: Write>(
         Appends (T.contents writer.old) (T.contents writer.new) (written_in (map S.text words.now) input)) }
     ensures part { faults_in (map S.text words.now) ≡ [] → result ≢ 0 → IfSome (R.remaining reader.old) (λ input.
         AppendsPrefix (T.contents writer.old) (T.contents writer.new) (written_in (map S.text words.now) input)) }
+    // Then `faults` is given the line on a fault with which such a run may end, or the first bytes of it.
+    ensures fault { faults_in (map S.text words.now) ≡ [] → result ≢ 0 → IfSome (R.remaining reader.old)
+        (EndsWithFault (map S.text words.now) (F.contents faults.old) (F.contents faults.new)) }
 {
     let mut reader = Watched::new(reader);
     let mut writer = Watched::new(Lent { inner: writer });

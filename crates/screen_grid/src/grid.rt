@@ -18,13 +18,14 @@ ghost use Rattle.screen_effects.specs.Effect.{effect, is_visible};
 ghost use Rattle.screen_effects.specs.Resize.{resized};
 ghost use Rattle.screen_effects.specs.Strokes.{CarriageReturn, Cluster, Control, LineFeed, stroke_done, text_done};
 
+use crate::fast::controls::single_control;
 use crate::positions::{resolved, resolved_column};
 use crate::ring::Ring;
 use crate::rows::{
     blank_lines, blank_rows, blank_rows_below, copy, resize, scroll, scroll_down, scroll_up,
     set_blanks, set_cell, set_size, set_text,
 };
-use crate::text::{next_cluster, single_control};
+use crate::text::next_cluster;
 use cell_base::{
     AttributeChange, CellAttributes, ColorAttribute, CursorShape, CursorVisibility, LineAttribute,
     Position, Widths,

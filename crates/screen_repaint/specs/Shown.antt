@@ -1,8 +1,10 @@
 -- What a repaint leaves of another display.
-use Rattle.std.specs.Prelude.{⊤, ℕ, Bool, List, [], ◌∷◌, Option, Some, None, if◌then◌else◌}
+use Rattle.std.specs.Prelude.{◌≡◌, ⊤, ℕ, Bool, List, [], ◌∷◌, length, Option, Some, None, if◌then◌else◌}
 use Rattle.cell_base.specs.declared.attributes.CursorShape.{CursorShape as Shape}
+use Rattle.cell_base.specs.Row.{space}
 use Rattle.screen_change.specs.ChangeValue.{ChangeValue, Title}
-use Rattle.screen_effects.specs.Display.{Display}
+use Rattle.screen_effects.specs.Display.{Display, IsDisplay}
+use Rattle.screen_effects.specs.WrittenCells.{IsSoundDisplay}
 
 abbrev pub IsTitle : ChangeValue → Type 0
 IsTitle (Title title) = ⊤
@@ -39,3 +41,13 @@ shown_on other title display = record {
   sizes = other.sizes;
   shape = shape_or display.screen.visible display.shape other.shape;
 }
+
+-- One display can be painted on another: they have one size, a space takes one column, and each cell of the one that is
+-- painted has a text that is one cluster without controls, in as many columns as it takes.
+pub record CanBePainted (width_of : List ℕ → ℕ) (other display : Display) : Type 0 where
+  pub narrow : width_of space ≡ 1
+  pub display_is : IsDisplay display
+  pub sound : IsSoundDisplay width_of display
+  pub other_is : IsDisplay other
+  pub wide : other.screen.width ≡ display.screen.width
+  pub tall : length other.screen.rows ≡ length display.screen.rows

@@ -1,12 +1,10 @@
 //! The law of repaints: the contract of a function that does nothing.
-ghost use Rattle.std.specs.Prelude.{◌≡◌, ℕ, List, [], ◌∷◌, length};
-ghost use Rattle.cell_base.specs.Row.{space};
+ghost use Rattle.std.specs.Prelude.{◌≡◌, ℕ, List, [], ◌∷◌};
 ghost use Rattle.screen_change.specs.ChangeValue.{ChangeValue, Title};
-ghost use Rattle.screen_effects.specs.Display.{Display, IsDisplay};
+ghost use Rattle.screen_effects.specs.Display.{Display};
 ghost use Rattle.screen_effects.specs.Effect.{replay};
 ghost use Rattle.screen_repaint.specs.Repaint.{repaint, repaint_with};
-ghost use Rattle.screen_repaint.specs.Shown.{AreTitles, shown_on, title_left, title_or};
-ghost use Rattle.screen_effects.specs.WrittenCells.{IsSoundDisplay};
+ghost use Rattle.screen_repaint.specs.Shown.{AreTitles, CanBePainted, shown_on, title_left, title_or};
 
 /// Any display of the same size on which a repaint is played shows what the painted display shows:
 /// its rows, its cursor's position, whether that is visible, and its pen. The title is the one that the
@@ -16,18 +14,14 @@ ghost use Rattle.screen_effects.specs.WrittenCells.{IsSoundDisplay};
 /// takes, as all cells have that changes write.
 pub fn repaints_show_the_display()
     ensures shown { (width_of : List ℕ → ℕ) (other : Display) (display : Display) (titles : List ChangeValue)
-        → width_of space ≡ 1 → IsDisplay display → IsSoundDisplay width_of display → IsDisplay other
-        → other.screen.width ≡ display.screen.width → length other.screen.rows ≡ length display.screen.rows
-        → AreTitles titles
+        → CanBePainted width_of other display → AreTitles titles
         → replay width_of other (repaint_with titles display)
         ≡ shown_on other (title_left other.screen.title titles) display }
-    ensures titled { (width_of : List ℕ → ℕ) (other : Display) (display : Display) (title : List ℕ) → width_of space ≡ 1
-        → IsDisplay display → IsSoundDisplay width_of display → IsDisplay other
-        → other.screen.width ≡ display.screen.width → length other.screen.rows ≡ length display.screen.rows
+    ensures titled { (width_of : List ℕ → ℕ) (other : Display) (display : Display) (title : List ℕ)
+        → CanBePainted width_of other display
         → replay width_of other (repaint_with (Title title ∷ []) display) ≡ shown_on other title display }
-    ensures repainted { (width_of : List ℕ → ℕ) (other : Display) (display : Display) → width_of space ≡ 1
-        → IsDisplay display → IsSoundDisplay width_of display → IsDisplay other
-        → other.screen.width ≡ display.screen.width → length other.screen.rows ≡ length display.screen.rows
+    ensures repainted { (width_of : List ℕ → ℕ) (other : Display) (display : Display)
+        → CanBePainted width_of other display
         → replay width_of other (repaint display)
         ≡ shown_on other (title_or display.screen.title other.screen.title) display }
 {}

@@ -18,7 +18,7 @@ mod service;
 mod shots;
 
 use options::{Options, read};
-use service::{explain_words, refuse, refuse_input, serve, tell};
+use service::{explain_words, refuse, refuse_input, report, serve};
 use std::io::ErrorKind;
 use std::process::ExitCode;
 use std::{env, fs};
@@ -56,10 +56,10 @@ fn main(rt: HostRuntime) -> ExitCode {
     let words: Vec<String> = match env::args(&rt) {
         Ok(words) => match words.collect(rt.alloc()) {
             Ok(words) => words,
-            Err(_) => return ExitCode::from(tell(&mut faults, "out of memory")),
+            Err(_) => return ExitCode::from(report(&mut faults, "out of memory")),
         },
         Err(error) if error.kind() == ErrorKind::OutOfMemory => {
-            return ExitCode::from(tell(&mut faults, "out of memory"));
+            return ExitCode::from(report(&mut faults, "out of memory"));
         }
         Err(_) => {
             let text = "error: invalid UTF-8 was detected in one or more arguments\n";

@@ -22,7 +22,7 @@ const FAULT: u8 = 1;
 const BAD_WORDS: u8 = 2;
 
 /// Writes a line on what went wrong. That it can't be written is dropped.
-pub fn tell<F: Write>(faults: &mut F, fault: &str) -> u8
+pub fn report<F: Write>(faults: &mut F, fault: &str) -> u8
     ensures { result ≡ FAULT }
 {
     let _ = write_text(faults, &["shot: ", fault, "\n"]);
@@ -68,16 +68,16 @@ fn explain<T: Write, F: Write>(alloc: Global, error: &Error, writer: &mut T, fau
     ensures refused { result ≡ BAD_WORDS → Keeps (T.contents writer.old) (T.contents writer.new) }
 {
     if error.kind() == ErrorKind::OutOfMemory {
-        return tell(faults, "out of memory");
+        return report(faults, "out of memory");
     }
     let Ok(text) = error.to_string(alloc) else {
-        return tell(faults, "out of memory");
+        return report(faults, "out of memory");
     };
     if error.use_stderr() {
         return refuse(faults, &[text.as_str()]);
     }
     if write_text(writer, &[text.as_str()]).is_err() {
-        return tell(faults, "cannot write");
+        return report(faults, "cannot write");
     }
     0
 }
@@ -170,8 +170,8 @@ fn tell_line<F: Write>(alloc: Global, name: &str, bad: BadLine, faults: &mut F) 
 {
     let BadLine { line, fault } = bad;
     match format!(in alloc; "{name}:{line}: {fault}") {
-        Ok(text) => tell(faults, &text),
-        Err(_) => tell(faults, "out of memory"),
+        Ok(text) => report(faults, &text),
+        Err(_) => report(faults, "out of memory"),
     }
 }
 
@@ -197,8 +197,8 @@ fn answer<T: Write, F: Write>(
             tell_line(alloc, name, bad, faults)
         }
         Ok(None) if writer.flush().is_ok() => 0,
-        Ok(None) => tell(faults, "cannot write"),
-        Err(error) => tell(faults, fault_of(error)),
+        Ok(None) => report(faults, "cannot write"),
+        Err(error) => report(faults, fault_of(error)),
     }
 }
 
@@ -234,7 +234,7 @@ pub fn refuse_input<F: Write>(alloc: Global, name: &str, faults: &mut F) -> u8
     ensures { result ≡ FAULT }
 {
     match format!(in alloc; "{name}: cannot read") {
-        Ok(text) => tell(faults, &text),
-        Err(_) => tell(faults, "out of memory"),
+        Ok(text) => report(faults, &text),
+        Err(_) => report(faults, "out of memory"),
     }
 }

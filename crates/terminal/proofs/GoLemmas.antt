@@ -1,10 +1,10 @@
 -- Terminals that go on by histories.
-use Rattle.std.proofs.Common.{◌≡◌, ℕ, ◌<◌, ◌≤◌, ◌^◌, Bool, false, List, [], ◌∷◌, ◌++◌, map, fold, inl, inr, refl, sym, ap, subst, ◌∙◌}
-use Rattle.std.specs.Prelude.{◌⊎◌}
+use Rattle.std.proofs.Common.{◌≡◌, ℕ, ◌+◌, ◌<◌, ◌≤◌, ◌^◌, Bool, true, false, List, [], ◌∷◌, ◌++◌, length, map, fold, inl, inr, refl, sym, ap, subst, ◌∙◌, arith}
+use Rattle.std.specs.Prelude.{◌⊎◌, ◌==◌, if◌then◌else◌}
 use Rattle.std.specs.String.{string_bytes}
 use Rattle.std.proofs.lemmas.Grind.{flat_map-append}
 use Rattle.std.proofs.lemmas.List.Sums.{fold-append}
-use Rattle.screen_log.specs.LogSteps.{LogStep, Sized, step_of_kept}
+use Rattle.screen_log.specs.LogSteps.{LogStep, Logged, Sized, step_of_kept}
 use Rattle.escape_framing.specs.Framed.{IsReached}
 use Rattle.escape_framing.specs.Cut.{newly_decided}
 use Rattle.escape_framing.specs.Held.{Held, held_of}
@@ -14,7 +14,7 @@ use Rattle.escape_stream.specs.Items.{Item, items, items_of}
 use Rattle.escape_stream.specs.StreamActions.{actions_of_dispatch, actions_of}
 use Rattle.escape_stream.proofs.SpellLemmas.{pieces_spell}
 use Rattle.terminal.specs.Headline.{StandsAt, GoesBy}
-use Rattle.terminal.specs.Refusals.{NeedsNumber}
+use Rattle.terminal.specs.Refusals.{HasNumbers, NeedsNumber}
 use Rattle.terminal.specs.Terminal.{Terminal}
 use Rattle.terminal_steps.specs.Events as steps
 use Rattle.terminal_steps.specs.Events.{IsReady, Had, view_of}
@@ -22,6 +22,7 @@ use Rattle.terminal_steps.specs.Memory.{TakesMemory}
 use Rattle.terminal_steps.specs.Items.{item_event, item_events, log_after_items, Leads, ParserNeedsMemory, SomeNeedsMemory}
 use Rattle.terminal_steps.specs.declared.state.TerminalState.{TerminalState}
 use Rattle.terminal_steps.proofs.SpellLemmas.{call_state, call_held, call_logged, call_events, none_newly}
+use Rattle.terminal_table.specs.Changes.{run_change}
 use Rattle.terminal_table.specs.History.{History, Piece, Look, Resize, Forget, Event, Act, Looked, Resized, Forgot}
 use Rattle.terminal_table.specs.History as table
 use Rattle.terminal_table.specs.Logged.{events_logged, logged, log_after}
@@ -116,6 +117,25 @@ module _ {W : Type 0} (width_of : W → List ℕ → ℕ) where
       (ap (fold step_of_kept s.surface.log)
       (ap (λ v. events_logged (width_of s.surface.grid.widths) v (events view)) (same_view s u view st) ∙ logged_with (width_of s.surface.grid.widths) view [] (events view) ∙ (are view).logged))
       (number view st.unfinished)
+
+  -- ---- a look
+
+  look_at : (s : TerminalState W) → List ℕ → Sized
+  look_at s held = fold step_of_kept s.surface.log ((if length held == 0 then [] else Logged (run_change held) ∷ []) ++ [])
+
+  -- there are numbers for it
+  pub look_has : (s : TerminalState W) (u : Held) (now : Terminal W) → with_parts s u ≡ now → (steps.final_log width_of s (Looked ∷ [])).log.number < 2 ^ 64 → HasNumbers width_of now (Look ∷ [])
+  unfolding look_at
+  look_has s u now same fits =
+      subst (λ t. HasNumbers width_of t (Look ∷ [])) same (λ view st. subst (λ held. (look_at s held).log.number < 2 ^ 64) st.run fits)
+
+  -- so it is where there is one for a run
+  pub next_has : (s : TerminalState W) (u : Held) (now : Terminal W) → with_parts s u ≡ now → s.surface.log.log.number + 1 < 2 ^ 64 → HasNumbers width_of now (Look ∷ [])
+  next_has s u now same next = look_has s u now same (by_test (length (string_bytes s.held) == 0))
+    where
+      by_test : (b : Bool) → (fold step_of_kept s.surface.log ((if b then [] else Logged (run_change (string_bytes s.held)) ∷ []) ++ [])).log.number < 2 ^ 64
+      by_test true = omega arith
+      by_test false = next
 
   -- ---- a piece
 

@@ -89,7 +89,7 @@ module _ {W : Type 0} (width_of : W → List ℕ → ℕ) (w : W) (width height 
 sizes_after : (step : Step) (steps : List Step) → AreStepSizes (step ∷ steps) → AreStepSizes steps
 sizes_after (code.Feed bytes) steps h = h
 sizes_after code.Settle steps h = h
-sizes_after (code.Resize width height) steps h = h.2
+sizes_after (code.Resize width height) steps h = h.1
 
 pub sizes_left : (steps : List Step) (i : ℕ) (d : Step) → i < length steps → AreStepSizes (drop i steps) → AreStepSizes (drop (i + 1) steps)
 sizes_left steps i d h s = sizes_after (get_or steps i d) (drop (i + 1) steps) (subst AreStepSizes (drop_more steps i d h) s)

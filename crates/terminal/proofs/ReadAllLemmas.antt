@@ -1,5 +1,5 @@
 -- An input that is read and fed in chunks, to a terminal that forgets what nobody reads.
-use Rattle.std.proofs.Common.{◌≡◌, ℕ, ◌^◌, ◌≤◌, false, List, [], ◌∷◌, ◌++◌, refl, sym, ap, subst, ◌∙◌, arith, Option, Some, None, append_assoc, append-nil}
+use Rattle.std.proofs.Common.{◌≡◌, ℕ, ◌^◌, ◌<◌, ◌≤◌, inl, inr, false, List, [], ◌∷◌, ◌++◌, length, refl, sym, ap, subst, ◌∙◌, arith, Option, Some, None, append_assoc, append-nil}
 use Rattle.std.specs.Prelude.{IfSome}
 use Rattle.std.specs.Io.KnownBytes.{Consumes, IsAtEnd}
 use Rattle.cell_base.specs.Screen.{Screen, screen_text}
@@ -8,9 +8,9 @@ use Rattle.terminal.specs.Fed.{AnswersAt, AnswersNow, IsFed, FeedsOn, Feeds, Fee
 use Rattle.terminal.specs.Written.{IsAt, Lightens}
 use Rattle.terminal.specs.Shown.{rows_shown}
 use Rattle.terminal.specs.Headline.{GoesBy}
-use Rattle.terminal.specs.Refusals.{NeedsNumber}
+use Rattle.terminal.specs.Refusals.{HasNumbers, IsRefusedMemory, NeedsMemory, NeedsNumber, ReadingIsRefusedMemory, one_look}
 use Rattle.terminal.specs.Terminal.{Terminal, state_in}
-use Rattle.terminal.proofs.AnswerLemmas.{chunks_join, number_rises, answers_first, answers_on, answers_at_rest, answers_later, answers_lighter, number_there, needs_there}
+use Rattle.terminal.proofs.AnswerLemmas.{chunks_join, number_rises, answers_first, answers_on, answers_at_rest, answers_later, answers_lighter, number_there, needs_there, fits_there, takes_there, quiet_look}
 use Rattle.terminal_table.specs.History.{History, Piece, Look, Forget}
 use Rattle.terminal_table.specs.Logged.{log_of}
 use Rattle.terminal_table.specs.Meaning.{meaning}
@@ -88,6 +88,34 @@ module _ {W : Type 0} (width_of : W → List ℕ → ℕ) where
       ∙ ap (λ l. standing_after (of t) start (Piece l ∷ [])) (append_assoc h.fed bytes next ∙ ap (λ l. h.fed ++ l) (sym c) ∙ sym h.whole) in
       subst (λ (x : Standing). 2 ^ 64 ≤ x.log.log.number) whole (omega arith)
 
+  -- memory is refused to the bytes read last
+  pub memory_fed : (input rest next : Option (List ℕ)) (t now u : Terminal W) (bytes : List ℕ) → FeedsOn width_of input rest t now → Consumes rest next bytes → length bytes ≤ 4096
+      → NeedsMemory width_of now bytes u → ReadingIsRefusedMemory width_of one_look t input next
+  memory_fed None rest next t now u bytes h c most n = tt
+  memory_fed (Some input) None next t now u bytes h c most n = absurd h
+  memory_fed (Some input) (Some rest) None t now u bytes h c most n = absurd c
+  memory_fed (Some input) (Some rest) (Some next) t now u bytes h c most n = λ start at counted.
+      let fed = standing_after (of t) start (Piece h.fed ∷ []) in
+      record {
+        part = record { read = h.fed ++ bytes; rest = next; whole = h.whole ∙ ap (λ l. h.fed ++ l) c ∙ sym (append_assoc h.fed bytes next); remaining = refl };
+        why = inl (record {
+          before = h.fed;
+          last = bytes;
+          whole = refl;
+          at_most = most;
+          history = Piece h.fed ∷ [];
+          looked = refl;
+          failed = u.surface.is_failed;
+          takes = takes_there width_of t.surface.grid.widths fed.log.log.number now u fed bytes h.is.widths (h.is.answers start at counted) n;
+        });
+      }
+
+  pub all_read : (input rest next : Option (List ℕ)) (t now : Terminal W) → FeedsOn width_of input rest t now → Consumes rest next [] → IsAtEnd next → IfSome input (λ x. next ≡ Some [])
+  all_read None rest next t now h c e = tt
+  all_read (Some input) None next t now h c e = absurd h
+  all_read (Some input) (Some rest) None t now h c e = absurd c
+  all_read (Some input) (Some rest) (Some next) t now h c e = ap Some e
+
   -- ---- a new terminal that is fed all of an input, and settles
 
   module _ (w : W) (width height : ℕ) (new : Terminal W) (at : IsAt new (new_standing width height)) (e : new.surface.grid.widths ≡ w) where
@@ -126,6 +154,39 @@ module _ {W : Type 0} (width_of : W → List ℕ → ℕ) where
     number_of_look (Some x) fed h n =
         let whole = standing_after (of new) (new_standing width height) (Piece x ∷ []) in
         past x (needs_there width_of new.surface.grid.widths whole.log.log.number fed whole (Look ∷ []) tt h.widths (h.answers (new_standing width height) at (omega arith)) n)
+
+    -- ---- what refused memory
+
+    pub refused_new : (history_of : List ℕ → History) (input left : Option (List ℕ)) → ReadingIsRefusedMemory width_of history_of new input left
+        → IfSome input (λ x. IsRefusedMemory (width_of w) (new_standing width height) history_of x left)
+    refused_new history_of None left r = tt
+    refused_new history_of (Some x) left r =
+        subst (λ v. IsRefusedMemory (width_of v) (new_standing width height) history_of x left) e (r (new_standing width height) at (omega arith))
+
+    -- all was fed, and there are numbers for the look
+    pub fits_look : (input left : Option (List ℕ)) (fed : Terminal W) → Feeds width_of input new fed → IfSome input (λ x. left ≡ Some []) → HasNumbers width_of fed (Look ∷ [])
+        → IfSome input (λ x. IsRefusedMemory (width_of w) (new_standing width height) one_look x left)
+    fits_look None left fed h all n = tt
+    fits_look (Some x) left fed h all n =
+        let start = new_standing width height in
+        let whole = standing_after (of new) start (Piece x ∷ []) in
+        record {
+          part = record { read = x; rest = []; whole = sym (append-nil x); remaining = all };
+          why = inr (subst (λ v. (standing_after (width_of v) start (one_look x)).log.log.number < 2 ^ 64) e
+              (subst (λ (y : Standing). y.log.log.number < 2 ^ 64) (sym (standings_join (of new) start (Piece x ∷ []) (Look ∷ [])))
+              (fits_there width_of new.surface.grid.widths whole.log.log.number fed whole (Look ∷ []) tt h.widths (h.answers start at (omega arith)) n)));
+        }
+
+-- before the first read there are numbers for all that was read, which is nothing
+pub nothing_read : (f : List ℕ → ℕ) (width height : ℕ) (history_of : List ℕ → History) (input : Option (List ℕ)) → history_of [] ≡ one_look []
+    → IfSome input (λ x. IsRefusedMemory f (new_standing width height) history_of x input)
+nothing_read f width height history_of None e = tt
+nothing_read f width height history_of (Some x) e =
+    let start = new_standing width height in
+    record {
+      part = record { read = []; rest = x; whole = refl; remaining = refl };
+      why = inr (subst (λ h. (standing_after f start h).log.log.number < 2 ^ 64) (sym e) (subst (λ n. n < 2 ^ 64) (sym (quiet_look f start refl)) (omega arith)));
+    }
 
 pub rows_are : (f : List ℕ → ℕ) (width height : ℕ) (input : Option (List ℕ)) (screen : Screen) (bytes : List ℕ) → IfSome input (λ x. screen ≡ (meaning f width height (Piece x ∷ Look ∷ [])).state.screen)
     → bytes ≡ screen_text screen → IfSome input (λ x. bytes ≡ rows_shown f width height x)

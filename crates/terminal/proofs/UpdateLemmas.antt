@@ -10,9 +10,9 @@ use Rattle.terminal.specs.Fed.{AnswersAt}
 use Rattle.terminal.specs.Written.{IsAt, IsCounted, Lightens, UpdateWritten, SendsChunks, SendsPart, due_from, looked, lightened, update_at, updates_from, number_after}
 use Rattle.terminal.specs.Shown.{AppendsPrefix}
 use Rattle.terminal.specs.Headline.{GoesBy}
-use Rattle.terminal.specs.Refusals.{NeedsNumber}
+use Rattle.terminal.specs.Refusals.{FeedTakesMemory, HasNumbers, IsRefusedMemory, NeedsMemory, NeedsNumber, all_looks}
 use Rattle.terminal.specs.Terminal.{Terminal}
-use Rattle.terminal.proofs.AnswerLemmas.{chunks_join, number_rises, update_alike, answers_first, answers_on, answers_at_rest, answers_lightened, answers_lighter, number_there, needs_there}
+use Rattle.terminal.proofs.AnswerLemmas.{chunks_join, number_rises, update_alike, answers_first, answers_on, answers_at_rest, answers_lightened, answers_lighter, number_there, needs_there, fits_there, takes_there, quiet_look}
 use Rattle.terminal.proofs.GoLemmas.{actions_join}
 use Rattle.terminal_table.specs.History.{History, Piece, Look}
 use Rattle.terminal_viewers.specs.Updates.{Standing, in_chunks, looks, standing_after, updates_after}
@@ -373,8 +373,8 @@ module _ {W : Type 0} (width_of : W → List ℕ → ℕ) (w : W) where
         subst (λ (x : Standing). 2 ^ 64 ≤ x.log.log.number) (sym whole) (omega arith)
 
     -- the chunks from the one that has begun on
-    chunks_after : (ps : List (List ℕ)) → in_chunks every [] input ≡ s.done ++ ps → standing_after f start (looks (in_chunks every [] input)) ≡ standing_after f s.last (looks ps)
-    chunks_after ps e =
+    chunks_after : (bytes : List ℕ) (ps : List (List ℕ)) → in_chunks every [] bytes ≡ s.done ++ ps → standing_after f start (looks (in_chunks every [] bytes)) ≡ standing_after f s.last (looks ps)
+    chunks_after bytes ps e =
         ap (λ qs. standing_after f start (looks qs)) e ∙ ap (standing_after f start) (looks-append s.done ps) ∙ standings_join f start (looks s.done) (looks ps) ∙ ap (λ x. standing_after f x (looks ps)) (sym s.last_is)
 
     input_is : (bytes next : List ℕ) → rest ≡ bytes ++ next → in_chunks every [] input ≡ s.done ++ in_chunks every s.begun (bytes ++ next)
@@ -387,7 +387,7 @@ module _ {W : Type 0} (width_of : W → List ℕ → ℕ) (w : W) where
         let chunk = s.begun ++ bytes in
         let h = holds every s.begun bytes next (omega arith) in
         past_prefix (Piece chunk ∷ []) (Piece h.more ∷ Look ∷ looks h.remaining)
-        (chunks_after ((chunk ++ h.more) ∷ h.remaining) (input_is bytes next e ∙ ap (λ ps. s.done ++ ps) h.are) ∙ sym (standings_cut actions_join f s.last chunk h.more (Look ∷ looks h.remaining)))
+        (chunks_after input ((chunk ++ h.more) ∷ h.remaining) (input_is bytes next e ∙ ap (λ ps. s.done ++ ps) h.are) ∙ sym (standings_cut actions_join f s.last chunk h.more (Look ∷ looks h.remaining)))
         (subst (λ (x : Standing). 2 ^ 64 ≤ x.log.log.number) (chunks_join f s.last s.begun bytes) (needs_there width_of w s.from t here (Piece bytes ∷ []) tt same s.answers n))
 
     -- a look that is refused a number after a chunk
@@ -402,12 +402,71 @@ module _ {W : Type 0} (width_of : W → List ℕ → ℕ) (w : W) where
         let room = s.room in
         let chunk = s.begun ++ bytes in
         past_prefix (looks (chunk ∷ [])) (looks (in_chunks every [] next))
-        (chunks_after (chunk ∷ in_chunks every [] next) (input_is bytes next e ∙ ap (λ ps. s.done ++ ps) (fills every s.begun bytes next (omega arith) (omega arith))))
+        (chunks_after input (chunk ∷ in_chunks every [] next) (input_is bytes next e ∙ ap (λ ps. s.done ++ ps) (fills every s.begun bytes next (omega arith) (omega arith))))
         (look_needs chunk u widths (fed_on bytes u same g) n)
 
     pub past_end : rest ≡ [] → t.surface.grid.widths ≡ w → NeedsNumber width_of t (Look ∷ []) → 2 ^ 64 ≤ number_after f every start input
     unfolding next_of with_chunk
     past_end e same n =
         past_prefix (looks (s.begun ∷ [])) []
-        (chunks_after (s.begun ∷ []) (ap (in_chunks every []) (s.whole ∙ ap (λ l. s.read ++ l) e) ∙ s.chunks []))
+        (chunks_after input (s.begun ∷ []) (ap (in_chunks every []) (s.whole ∙ ap (λ l. s.read ++ l) e) ∙ s.chunks []))
         (look_needs s.begun t same s.answers n)
+
+    -- ---- memory
+
+    -- the chunks of what was read
+    chunks_read : in_chunks every [] s.read ≡ s.done ++ (s.begun ∷ [])
+    chunks_read = ap (in_chunks every []) (sym (append-nil s.read)) ∙ s.chunks []
+
+    -- bytes more take memory
+    pub memory_feed : (next bytes : List ℕ) (u : Terminal W) (remaining : Option (List ℕ)) → rest ≡ bytes ++ next → remaining ≡ Some next → t.surface.grid.widths ≡ w → length bytes ≤ 4096 → NeedsMemory width_of t bytes u
+        → IsRefusedMemory f start (all_looks every) input remaining
+    unfolding here
+    memory_feed next bytes u remaining e known same most n = record {
+      part = record { read = s.read ++ bytes; rest = next; whole = s.whole ∙ ap (λ l. s.read ++ l) e ∙ sym (append_assoc s.read bytes next); remaining = known };
+      why = inl (record {
+        before = s.read;
+        last = bytes;
+        whole = refl;
+        at_most = most;
+        history = looks s.done ++ (Piece s.begun ∷ []);
+        looked = ap looks chunks_read ∙ looks-append s.done (s.begun ∷ []) ∙ sym (append_assoc (looks s.done) (Piece s.begun ∷ []) (Look ∷ []));
+        failed = u.surface.is_failed;
+        takes = subst (λ (x : Standing). FeedTakesMemory f x bytes u.surface.is_failed)
+            (ap (λ x. standing_after f x (Piece s.begun ∷ [])) s.last_is ∙ sym (standings_join f start (looks s.done) (Piece s.begun ∷ [])))
+            (takes_there width_of w s.from t u here bytes same s.answers n);
+      });
+    }
+
+    -- there are numbers for a look after a chunk
+    look_fits : (chunk : List ℕ) (u : Terminal W) → u.surface.grid.widths ≡ w → AnswersAt s.from u (with_chunk chunk) → HasNumbers width_of u (Look ∷ []) → (next_of chunk).log.log.number < 2 ^ 64
+    unfolding next_of with_chunk
+    look_fits chunk u same a n =
+        subst (λ (x : Standing). x.log.log.number < 2 ^ 64) (sym (standings_join f s.last (Piece chunk ∷ []) (Look ∷ []))) (fits_there width_of w s.from u (with_chunk chunk) (Look ∷ []) tt same a n)
+
+    -- a chunk that is full, with its look, and the one after it, in which nothing was read yet
+    full_number : (bytes : List ℕ) → 0 < length bytes → length s.begun + length bytes ≡ every → number_after f every start (s.read ++ bytes) ≡ (next_of (s.begun ++ bytes)).log.log.number
+    unfolding next_of with_chunk
+    full_number bytes some full =
+        let chunk = s.begun ++ bytes in
+        let next = next_of chunk in
+        let chunks : in_chunks every [] (s.read ++ bytes) ≡ s.done ++ (chunk ∷ [] ∷ [])
+        = s.chunks bytes ∙ ap (λ l. s.done ++ in_chunks every s.begun l) (sym (append-nil bytes)) ∙ ap (λ ps. s.done ++ ps) (fills every s.begun bytes [] some full) in
+        ap (λ (x : Standing). x.log.log.number) (chunks_after (s.read ++ bytes) (chunk ∷ [] ∷ []) chunks ∙ standings_join f s.last (looks (chunk ∷ [])) (Piece [] ∷ Look ∷ []))
+        ∙ quiet_look f next (ap (λ (x : Standing). x.view.held) (standings_join f s.last (Piece chunk ∷ []) (Look ∷ [])))
+
+    pub memory_look : (next bytes : List ℕ) (u : Terminal W) (remaining : Option (List ℕ)) → rest ≡ bytes ++ next → remaining ≡ Some next → t.surface.grid.widths ≡ w → u.surface.grid.widths ≡ w → GoesBy width_of t u (Piece bytes ∷ []) → length bytes ≡ left → 0 < left
+        → HasNumbers width_of u (Look ∷ []) → IsRefusedMemory f start (all_looks every) input remaining
+    memory_look next bytes u remaining e known same widths g full some n =
+        let room = s.room in
+        record {
+          part = record { read = s.read ++ bytes; rest = next; whole = s.whole ∙ ap (λ l. s.read ++ l) e ∙ sym (append_assoc s.read bytes next); remaining = known };
+          why = inr (subst (λ m. m < 2 ^ 64) (sym (full_number bytes (omega arith) (omega arith))) (look_fits (s.begun ++ bytes) u widths (fed_on bytes u same g) n));
+        }
+
+    pub memory_end : (remaining : Option (List ℕ)) → remaining ≡ Some rest → t.surface.grid.widths ≡ w → HasNumbers width_of t (Look ∷ []) → IsRefusedMemory f start (all_looks every) input remaining
+    unfolding next_of with_chunk
+    memory_end remaining known same n = record {
+      part = record { read = s.read; rest = rest; whole = s.whole; remaining = known };
+      why = inr (subst (λ (x : Standing). x.log.log.number < 2 ^ 64) (sym (chunks_after s.read (s.begun ∷ []) chunks_read)) (look_fits s.begun t same s.answers n));
+    }

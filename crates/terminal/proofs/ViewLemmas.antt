@@ -2,6 +2,7 @@
 use Rattle.std.proofs.Common.{◌≡◌, ℕ, ◌+◌, ◌*◌, ◌<◌, ◌≤◌, ◌^◌, false, Option, Some, None, List, [], ◌∷◌, ◌++◌, length, map, refl, sym, ap, subst, ◌∙◌, arith}
 use Rattle.cell_base.specs.Row.{space, plain_row}
 use Rattle.cell_base.specs.Screen.{Screen, IsScreen, height}
+use Rattle.cell_base.specs.ScreenSize.{IsScreenSize}
 use Rattle.screen_change.specs.ChangeValue.{ChangeValue}
 use Rattle.cell_surface.specs.Surface.{Surface, shown_by, number_of}
 use Rattle.screen_log.specs.LogSteps.{Forgotten, Sized, step_of_kept}
@@ -267,19 +268,19 @@ module _ {W : Type 0} (width_of : W → List ℕ → ℕ) where
 
   -- ---- all updates of an input
 
-  pub input_shown : UpdatesShowTheInput → (w : W) (width rows every : ℕ) (input : List ℕ) (new later : Terminal W) → width_of w space ≡ 1 → 0 < width → width < 2 ^ 32 → 0 < rows → rows < 2 ^ 32 → StandsAt new (new_view width rows) → new.surface.grid.widths ≡ w
+  pub input_shown : UpdatesShowTheInput → (w : W) (width rows every : ℕ) (input : List ℕ) (new later : Terminal W) → width_of w space ≡ 1 → IsScreenSize width rows → StandsAt new (new_view width rows) → new.surface.grid.widths ≡ w
       → GoesBy width_of new later (Piece (updates (width_of w) width rows every input) ∷ []) → (state_in later).screen ≡ (updated (width_of w) width rows every input).state.screen
-  input_shown law w width rows every input new later narrow a b c d st e g =
+  input_shown law w width rows every input new later narrow size st e g =
       ap (λ (x : State). x.screen) (g.stands (new_view width rows) st).state
       ∙ ap (λ x. (after (width_of x) (new_view width rows) (Piece (updates (width_of w) width rows every input) ∷ [])).state.screen) e
-      ∙ law (width_of w) width rows every input narrow a b c d
+      ∙ law (width_of w) width rows every input narrow size
 
-  pub input_idle : UpdatesLeaveNewViewersIdle → (w : W) (width rows every : ℕ) (input : List ℕ) (new later : Terminal W) → width_of w space ≡ 1 → 0 < width → width < 2 ^ 32 → 0 < rows → rows < 2 ^ 32 → StandsAt new (new_view width rows) → new.surface.grid.widths ≡ w
+  pub input_idle : UpdatesLeaveNewViewersIdle → (w : W) (width rows every : ℕ) (input : List ℕ) (new later : Terminal W) → width_of w space ≡ 1 → IsScreenSize width rows → StandsAt new (new_view width rows) → new.surface.grid.widths ≡ w
       → GoesBy width_of new later (Piece (updates (width_of w) width rows every input) ∷ []) → IsIdle later
-  input_idle law w width rows every input new later narrow a b c d st e g =
+  input_idle law w width rows every input new later narrow size st e g =
       let there = g.stands (new_view width rows) st in
       let bytes = updates (width_of w) width rows every input in
-      let quiet = subst (λ x. alone.IsIdle (after (width_of x) (new_view width rows) (Piece bytes ∷ []))) (sym e) (law (width_of w) width rows every input narrow a b c d) in
+      let quiet = subst (λ x. alone.IsIdle (after (width_of x) (new_view width rows) (Piece bytes ∷ []))) (sym e) (law (width_of w) width rows every input narrow size) in
       record { run = there.run ∙ quiet.run; unfinished = there.unfinished ∙ quiet.stream }
 
   -- ---- what is sent
@@ -292,38 +293,39 @@ module _ {W : Type 0} (width_of : W → List ℕ → ℕ) where
     abbrev screen : Screen
     screen = (state_in t).screen
 
+    screen_size : IsScreenSize screen.width (height screen)
+    screen_size =
+        let lawful = (state_is t s).lawful in
+        record { columns = (lawful.wide_enough, s.spelled.surface.wide); rows = (omega (arith, lawful.row_in), s.spelled.surface.tall) }
+
     spelled_update : ((x : Screen) (log : Sized) (n : ℕ) → IsDisplay (display_on x) → IsSpelledScreen x → HaveEncodings x.width (height x) log.log.entries → HaveEncodings x.width (height x) (update_changes x log n)) → HaveEncodings screen.width (height screen) (changes_for t number)
     spelled_update law = law screen t.surface.log number (display_on_is (state_in t) (state_is t s)) s.spelled.surface.spelled s.spelled.surface.kept
 
     pub short : ((x : Screen) (log : Sized) (n : ℕ) → IsDisplay (display_on x) → IsSpelledScreen x → HaveEncodings x.width (height x) log.log.entries → HaveEncodings x.width (height x) (update_changes x log n))
         → ((w h : ℕ) (changes : List ChangeValue) → HaveEncodings w h changes → all_rendered changes w h ≡ None → ⊥)
-        → ((w h : ℕ) (changes : List ChangeValue) (actions : List StreamAction) → 0 < w → w < 2 ^ 32 → 0 < h → h < 2 ^ 32 → HaveEncodings w h changes → all_rendered changes w h ≡ Some actions → length (stream_text actions) ≤ all_encoded_size changes)
+        → ((w h : ℕ) (changes : List ChangeValue) (actions : List StreamAction) → IsScreenSize w h → HaveEncodings w h changes → all_rendered changes w h ≡ Some actions → length (stream_text actions) ≤ all_encoded_size changes)
         → length (update_for t number) ≤ all_encoded_size (changes_for t number)
     short law rendered size =
         let spelled = spelled_update law in
         let found = some_of (all_rendered (changes_for t number) screen.width (height screen)) (rendered screen.width (height screen) (changes_for t number) spelled) in
-        let lawful = (state_is t s).lawful in
         subst (λ o. length (bytes_of o) ≤ all_encoded_size (changes_for t number)) (sym found.1)
-        (size screen.width (height screen) (changes_for t number) found.0 lawful.wide_enough s.spelled.surface.wide (omega (arith, lawful.row_in)) s.spelled.surface.tall spelled found.1)
+        (size screen.width (height screen) (changes_for t number) found.0 screen_size spelled found.1)
 
     pub each_short : ((x : Screen) (log : Sized) (n : ℕ) → IsDisplay (display_on x) → IsSpelledScreen x → HaveEncodings x.width (height x) log.log.entries → HaveEncodings x.width (height x) (update_changes x log n))
-        → ((w h : ℕ) (changes : List ChangeValue) → 0 < w → w < 2 ^ 32 → 0 < h → h < 2 ^ 32 → HaveEncodings w h changes → AreShort w h changes)
+        → ((w h : ℕ) (changes : List ChangeValue) → IsScreenSize w h → HaveEncodings w h changes → AreShort w h changes)
         → AreShort screen.width (height screen) (changes_for t number)
-    each_short law size =
-        let lawful = (state_is t s).lawful in
-        size screen.width (height screen) (changes_for t number) lawful.wide_enough s.spelled.surface.wide (omega (arith, lawful.row_in)) s.spelled.surface.tall (spelled_update law)
+    each_short law size = size screen.width (height screen) (changes_for t number) screen_size (spelled_update law)
 
     pub prints : ((x : Screen) (log : Sized) (n : ℕ) → IsDisplay (display_on x) → IsSpelledScreen x → HaveEncodings x.width (height x) log.log.entries → HaveEncodings x.width (height x) (update_changes x log n))
         → ((w h : ℕ) (changes : List ChangeValue) → HaveEncodings w h changes → all_rendered changes w h ≡ None → ⊥)
-        → ((w h : ℕ) (changes : List ChangeValue) (actions : List StreamAction) → 0 < w → w < 2 ^ 32 → 0 < h → h < 2 ^ 32 → HaveEncodings w h changes → all_rendered changes w h ≡ Some actions → IsWritable actions)
+        → ((w h : ℕ) (changes : List ChangeValue) (actions : List StreamAction) → IsScreenSize w h → HaveEncodings w h changes → all_rendered changes w h ≡ Some actions → IsWritable actions)
         → WritableListsReadBack
         → ((w h : ℕ) (changes : List ChangeValue) (actions : List StreamAction) → all_rendered changes w h ≡ Some actions → prints_in actions ≡ runs_in changes)
         → update_prints t number ≡ runs_in (changes_for t number)
     prints law rendered writable back once =
         let spelled = spelled_update law in
         let found = some_of (all_rendered (changes_for t number) screen.width (height screen)) (rendered screen.width (height screen) (changes_for t number) spelled) in
-        let lawful = (state_is t s).lawful in
-        let w = writable screen.width (height screen) (changes_for t number) found.0 lawful.wide_enough s.spelled.surface.wide (omega (arith, lawful.row_in)) s.spelled.surface.tall spelled found.1 in
+        let w = writable screen.width (height screen) (changes_for t number) found.0 screen_size spelled found.1 in
         ap (λ o. prints_in (stream_actions (bytes_of o))) found.1 ∙ ap prints_in (back found.0 w) ∙ prints_stay found.0 w ∙ once screen.width (height screen) (changes_for t number) found.0 found.1
 
     pub counted : ((x : Screen) (log : Sized) (n : ℕ) → IsScreen x → length log.log.entries ≤ log.log.number → log.most ≡ most_due x.width (height x) → length (update_changes x log n) ≤ 2 * x.width * height x + 2 * height x + 11)

@@ -1,5 +1,6 @@
 -- The steps of a terminal, as its history.
-use Rattle.std.specs.Prelude.{◌<◌, ◌^◌, ⊤, List, [], ◌∷◌, map}
+use Rattle.std.specs.Prelude.{⊤, List, [], ◌∷◌, map}
+use Rattle.cell_base.specs.ScreenSize.{IsScreenSize}
 use Rattle.terminal.specs.declared.steps.Step.{Step}
 use Rattle.terminal.specs.declared.steps.Step.TheVariants as code
 use Rattle.terminal_table.specs.History as history
@@ -18,5 +19,4 @@ abbrev pub AreStepSizes : List Step → Type 0
 AreStepSizes [] = ⊤
 AreStepSizes (code.Feed bytes ∷ steps) = AreStepSizes steps
 AreStepSizes (code.Settle ∷ steps) = AreStepSizes steps
-AreStepSizes (code.Resize width height ∷ steps) =
-    ((0 < width) × (width < 2 ^ 32)) × ((0 < height) × (height < 2 ^ 32)) × AreStepSizes steps
+AreStepSizes (code.Resize width height ∷ steps) = IsScreenSize width height × AreStepSizes steps

@@ -11,7 +11,7 @@ use Rattle.terminal_table.specs.Meaning.{View}
 use Rattle.terminal_viewers.specs.Update.{update_changes, update_of}
 use Rattle.terminal_viewers.specs.Updates.{Standing}
 
--- what a viewer is sent that has seen the changes before a number
+-- the bytes that bring a viewer up to date that has seen the changes before a number
 abbrev pub update_for : {W : Type 0} → Terminal W → ℕ → List ℕ
 update_for t number = update_of (state_in t).screen t.surface.log number
 
@@ -19,7 +19,7 @@ update_for t number = update_of (state_in t).screen t.surface.log number
 abbrev pub changes_for : {W : Type 0} → Terminal W → ℕ → List ChangeValue
 changes_for t number = update_changes (state_in t).screen t.surface.log number
 
--- what a viewer is sent that shows what another terminal shows
+-- the bytes that bring a viewer up to date that shows what another terminal shows
 abbrev pub patch_from : {W : Type 0} → Terminal W → Terminal W → List ℕ
 patch_from t shown = patch_of (state_in shown).screen (state_in t).screen
 
@@ -45,3 +45,12 @@ update_prints t number = prints_in (stream_actions (update_for t number))
 -- a screen shows a terminal at a number
 abbrev pub ShowsAt : {W : Type 0} → (W → List ℕ → ℕ) → Screen → ℕ → Terminal W → Type 0
 ShowsAt width_of shown number t = Shows (width_of t.surface.grid.widths) shown number (state_in t).screen t.surface.log
+
+-- A viewer can read the update of a terminal for a number: neither has failed, nothing is unfinished or held at the
+-- viewer, the widths of both answer alike, and the viewer's screen shows the terminal at that number.
+pub record CanReadSince {W : Type 0} (width_of : W → List ℕ → ℕ) (t viewer : Terminal W) (number : ℕ) : Type 0 where
+  pub sound : t.is_failed ≡ false
+  pub reads : viewer.is_failed ≡ false
+  pub idle : IsIdle viewer
+  pub widths : width_of viewer.surface.grid.widths ≡ width_of t.surface.grid.widths
+  pub shows : ShowsAt width_of (state_in viewer).screen number t

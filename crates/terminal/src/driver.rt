@@ -1,16 +1,19 @@
 //! Runs a reader's bytes through a terminal.
-ghost use Rattle.std.specs.Prelude.{◌≡◌, ◌↔◌, ℕ, ◌+◌, ◌<◌, ◌≤◌, ◌^◌, false, List, [], ◌∷◌, IsTrue, IsErr, IfOk, IfSome};
-ghost use Rattle.std.specs.Prelude.{OnOk, OnErr, IsErrOf};
+ghost use Rattle.std.specs.Prelude.{◌≡◌, ◌↔◌, ℕ, ◌+◌, ◌≤◌, ◌^◌, false, List, [], ◌∷◌, IsTrue, IsErr, IfOk, IfSome};
+ghost use Rattle.std.specs.Prelude.{OnOk, OnErr, IsErrOf, Some};
 ghost use Rattle.std.specs.Io.KnownBytes.{Appends, IsAtEnd, Keeps};
 ghost use Rattle.std.specs.String.{string_bytes};
+ghost use Rattle.cell_base.specs.ScreenSize.{IsScreenSize};
 ghost use Rattle.cell_surface.specs.Surface.{shown_by};
 ghost use Rattle.terminal.specs.Fed.{Feeds, FeedingNeedsNumber};
+ghost use Rattle.terminal.specs.Refusals.{IsRefusedMemory, ReadingIsRefusedMemory, one_look};
 ghost use Rattle.terminal.specs.Written.{Lightens};
 ghost use Rattle.terminal.specs.Shown.{AppendsPrefix, rows_shown};
 ghost use Rattle.terminal.specs.Watched.{IsUnread, counted};
 ghost use Rattle.terminal_table.specs.History.{Piece, Look};
 ghost use Rattle.terminal_table.specs.Logged.{log_of};
 ghost use Rattle.terminal_table.specs.Meaning.{meaning};
+ghost use Rattle.terminal_viewers.specs.Updates.{new_standing};
 
 use crate::error::RunError;
 use crate::terminal::Terminal;
@@ -63,6 +66,8 @@ fn feed_all<R: Read, W: Widths + Drop>(
     ensures ok { OnOk result (Feeds (λ w. W.width_of w) (R.remaining reader.old.inner) terminal.old terminal.new) }
     ensures sound { OnOk result (terminal.new.is_failed ≡ false) }
     ensures end { OnOk result (IsAtEnd (R.remaining reader.new.inner)) }
+    ensures none_left { OnOk result (IfSome (R.remaining reader.old.inner)
+        (λ input. R.remaining reader.new.inner ≡ Some [])) }
     ensures read { IsErrOf result RunError.Read ↔ IsTrue reader.new.has_failed }
     ensures ends { reader.new.has_gone_on ≡ reader.old.has_gone_on }
     ensures too_long { IsErrOf result RunError.TooLong → reader.new.reads ≡ 2 ^ 48 }
@@ -70,6 +75,9 @@ fn feed_all<R: Read, W: Widths + Drop>(
     ensures failed { IsErrOf result (RunError.Terminal TerminalError.Failed) → ⊥ }
     ensures number { IsErrOf result (RunError.Terminal TerminalError.Number)
         → FeedingNeedsNumber (λ w. W.width_of w) (R.remaining reader.old.inner) terminal.old }
+    ensures memory { IsErrOf result (RunError.Terminal TerminalError.Memory)
+        → ReadingIsRefusedMemory (λ w. W.width_of w) one_look terminal.old (R.remaining reader.old.inner)
+        (R.remaining reader.new.inner) }
 {
     let mut buffer = [0u8; 4096];
     for _ in 0..READS {
@@ -96,8 +104,7 @@ fn read_all<R: Read, W: Widths + Drop>(
     height: usize,
     widths: W,
 ) -> Result<Terminal<W>, RunError>
-    requires width { (0 < width) × (width < 2 ^ 32) }
-    requires height { (0 < height) × (height < 2 ^ 32) }
+    requires size { IsScreenSize width height }
     requires reader { IsUnread reader.old }
     ensures ok { IfOk result
         (λ t. IfSome (R.remaining reader.old.inner)
@@ -112,6 +119,13 @@ fn read_all<R: Read, W: Widths + Drop>(
     ensures number { IsErrOf result (RunError.Terminal TerminalError.Number)
         → IfSome (R.remaining reader.old.inner)
         (λ input. 2 ^ 64 ≤ (log_of (W.width_of widths) width height (Piece input ∷ Look ∷ [])).log.number) }
+    ensures memory { IsErrOf result (RunError.Terminal TerminalError.Memory) → IfSome (R.remaining reader.old.inner)
+        (λ input. IsRefusedMemory (W.width_of widths) (new_standing width height) one_look input
+        (R.remaining reader.new.inner)) }
+    // So it is where the rows are refused memory.
+    ensures rows { OnOk result (IfSome (R.remaining reader.old.inner)
+        (λ input. IsRefusedMemory (W.width_of widths) (new_standing width height) one_look input
+        (R.remaining reader.new.inner))) }
 {
     let mut terminal = Terminal::new(alloc, width, height, widths)?;
     feed_all(reader, &mut terminal)?;
@@ -128,8 +142,7 @@ fn rows_of<R: Read, W: Widths + Drop>(
     height: usize,
     widths: W,
 ) -> Result<String, RunError>
-    requires width { (0 < width) × (width < 2 ^ 32) }
-    requires height { (0 < height) × (height < 2 ^ 32) }
+    requires size { IsScreenSize width height }
     requires reader { IsUnread reader.old }
     ensures ok { IfOk result
         (λ text. IfSome (R.remaining reader.old.inner)
@@ -143,6 +156,9 @@ fn rows_of<R: Read, W: Widths + Drop>(
     ensures number { IsErrOf result (RunError.Terminal TerminalError.Number)
         → IfSome (R.remaining reader.old.inner)
         (λ input. 2 ^ 64 ≤ (log_of (W.width_of widths) width height (Piece input ∷ Look ∷ [])).log.number) }
+    ensures memory { IsErrOf result (RunError.Terminal TerminalError.Memory) → IfSome (R.remaining reader.old.inner)
+        (λ input. IsRefusedMemory (W.width_of widths) (new_standing width height) one_look input
+        (R.remaining reader.new.inner)) }
 {
     let terminal = read_all(alloc, reader, width, height, widths)?;
     let rows = terminal.surface().screen_chars_to_string()?;
@@ -165,8 +181,7 @@ pub fn show<R: Read, T: Write, W: Widths + Drop>(
     height: usize,
     widths: W,
 ) -> Result<(), RunError>
-    requires width { (0 < width) × (width < 2 ^ 32) }
-    requires height { (0 < height) × (height < 2 ^ 32) }
+    requires size { IsScreenSize width height }
     requires reader { IsUnread reader.old }
     requires writer { writer.old.has_failed ≡ false }
     ensures ok { OnOk result
@@ -196,6 +211,10 @@ pub fn show<R: Read, T: Write, W: Widths + Drop>(
     ensures number { IsErrOf result (RunError.Terminal TerminalError.Number)
         → IfSome (R.remaining reader.old.inner)
         (λ input. 2 ^ 64 ≤ (log_of (W.width_of widths) width height (Piece input ∷ Look ∷ [])).log.number) }
+    // Where memory is refused, what was read last takes some, or all that was read has numbers, with its look.
+    ensures memory { IsErrOf result (RunError.Terminal TerminalError.Memory) → IfSome (R.remaining reader.old.inner)
+        (λ input. IsRefusedMemory (W.width_of widths) (new_standing width height) one_look input
+        (R.remaining reader.new.inner)) }
 {
     let rows = rows_of(alloc, reader, width, height, widths)?;
     write_and_flush(writer, rows.as_bytes())

@@ -1,5 +1,6 @@
 //! Steps of a terminal, played on a new one.
-ghost use Rattle.std.specs.Prelude.{◌≡◌, ◌≤◌, ◌<◌, ◌^◌, false, ◌∷◌, [], IfOk, OnOk, OnErr, IsErrOf};
+ghost use Rattle.std.specs.Prelude.{◌≡◌, ◌≤◌, ◌^◌, false, ◌∷◌, [], IfOk, OnOk, OnErr, IsErrOf};
+ghost use Rattle.cell_base.specs.ScreenSize.{IsScreenSize};
 ghost use Rattle.terminal.specs.Played.{played, history_of, AreStepSizes};
 ghost use Rattle.terminal.specs.Headline.{StandsAt, GoesBy};
 ghost use Rattle.terminal.specs.Refusals.{NeedsNumber};
@@ -50,8 +51,7 @@ pub fn play<W: Widths + Drop>(
     height: usize,
     widths: W,
 ) -> Result<Terminal<W>, TerminalError>
-    requires width { (0 < width) × (width < 2 ^ 32) }
-    requires height { (0 < height) × (height < 2 ^ 32) }
+    requires size { IsScreenSize width height }
     requires sizes { AreStepSizes steps.now }
     ensures stands { IfOk result (λ t. StandsAt t (meaning (W.width_of widths) width height (history_of steps.now))) }
     ensures log { IfOk result (λ t. t.surface.log ≡ log_of (W.width_of widths) width height (history_of steps.now)) }

@@ -1,10 +1,11 @@
 //! The terminal.
-ghost use Rattle.std.specs.Prelude.{◌≡◌, ◌↔◌, ◌<◌, ◌^◌, true, false, [], ◌∷◌, length, IsTrue, IsOk, IfOk, OnOk, OnErr};
+ghost use Rattle.std.specs.Prelude.{◌≡◌, ◌↔◌, true, false, [], ◌∷◌, length, IsTrue, IsOk, IfOk, OnOk, OnErr};
 ghost use Rattle.std.specs.Prelude.{IsErrOf};
+ghost use Rattle.cell_base.specs.ScreenSize.{IsScreenSize};
 ghost use Rattle.screen_log.specs.Log.{most_due, new_log};
 ghost use Rattle.cell_surface.specs.Surface.{number_of};
 ghost use Rattle.terminal.specs.Headline.{StandsAt, GoesBy};
-ghost use Rattle.terminal.specs.Refusals.{NeedsMemory, NeedsNumber};
+ghost use Rattle.terminal.specs.Refusals.{HasNumbers, NeedsMemory, NeedsNumber};
 ghost use Rattle.terminal.specs.Terminal.{IsSpelled};
 ghost use Rattle.terminal.specs.Viewing.{patch_from, update_for};
 ghost use Rattle.terminal_table.specs.History.{Piece, Look, Resize, Forget};
@@ -53,8 +54,7 @@ impl<W: Widths + Drop> Terminal<W> {
         height: usize,
         widths: W,
     ) -> Result<Terminal<W>, AllocError>
-        requires width { (0 < width) × (width < 2 ^ 32) }
-        requires height { (0 < height) × (height < 2 ^ 32) }
+        requires size { IsScreenSize width height }
         ensures stands { IfOk result (λ t. StandsAt t (new_view width height)) }
         ensures log { IfOk result (λ t. t.surface.log ≡ record { most = most_due width height; log = new_log }) }
         ensures widths { IfOk result (λ t. t.surface.grid.widths ≡ widths) }
@@ -103,6 +103,8 @@ impl<W: Widths + Drop> Terminal<W> {
         ensures failed { IsErrOf result TerminalError.Failed ↔ IsTrue self.old.is_failed }
         ensures number { IsErrOf result TerminalError.Number → NeedsNumber (λ w. W.width_of w) self.old (Look ∷ []) }
         ensures memory { IsErrOf result TerminalError.Memory → self.new.surface.is_failed ≡ true }
+        ensures numbered { (IsErrOf result TerminalError.Number → ⊥) → self.old.is_failed ≡ false
+            → HasNumbers (λ w. W.width_of w) self.old (Look ∷ []) }
         ensures err { OnErr result (IsTrue self.new.is_failed) }
         ensures nothing { self.old.run ≡ [] → self.old.is_failed ≡ false → IsOk result }
         ensures width { OnOk result (self.new.surface.grid.width ≡ self.old.surface.grid.width) }
@@ -122,8 +124,7 @@ impl<W: Widths + Drop> Terminal<W> {
     /// held run ends before. A saved cursor stays as it is, and a restore keeps it within the screen.
     /// Refuses as `feed` does.
     pub fn resize(&mut self, width: usize, height: usize) -> Result<(), TerminalError>
-        requires width { (0 < width) × (width < 2 ^ 32) }
-        requires height { (0 < height) × (height < 2 ^ 32) }
+        requires size { IsScreenSize width height }
         ensures done { OnOk result (GoesBy (λ w. W.width_of w) self.old self.new (Resize width height ∷ [])) }
         ensures failed { IsErrOf result TerminalError.Failed ↔ IsTrue self.old.is_failed }
         ensures number { IsErrOf result TerminalError.Number
@@ -140,7 +141,7 @@ impl<W: Widths + Drop> Terminal<W> {
         Ok(())
     }
 
-    // What a viewer is sent that has seen the changes before a number.
+    // The bytes that bring a viewer up to date that has seen the changes before a number.
     fn update_for(&self, number: SequenceNo) -> Result<Vec<u8>, AllocError>
         requires { self.now.is_failed ≡ false }
         ensures { IfOk result (λ bytes. bytes.items ≡ update_for self.now number) }
@@ -148,12 +149,12 @@ impl<W: Widths + Drop> Terminal<W> {
         update(self.alloc, self.state.surface(), number)
     }
 
-    /// Settles, and answers the number of changes so far and the bytes that a viewer is sent which has seen
-    /// the changes before a number: the changes since then, spelled by ECMA-48 and xterm's control
-    /// sequences, or the whole screen painted anew, with its title, where the log doesn't keep them all, at
-    /// number 0, and above the current number. At the current number, unless that is 0, these are no bytes. Fed
-    /// to an idle terminal of this size and these widths that showed this one's screen at that number, they leave
-    /// it idle with this one's screen. The position of a pending wrap is sent as the last cell of its row once more.
+    /// Settles, and returns the number of changes so far and the bytes that bring a viewer up to date that has seen
+    /// every change before a number: the changes since then, encoded as control sequences of ECMA-48 and xterm, or
+    /// the whole screen painted anew, with its title, where the log doesn't keep them all, at number 0, and above
+    /// the current number. At the current number, unless that is 0, these are no bytes. Fed to an idle terminal of
+    /// this size and these widths that showed this one's screen at that number, they leave it idle with this one's
+    /// screen. The position of a pending wrap is encoded as the last cell of its row once more.
     ///
     /// Refuses as `feed` does. Where the bytes are refused memory the terminal hasn't failed: it is as after
     /// `settle`, and the same call, asked again, gives what it would have given.
@@ -168,6 +169,8 @@ impl<W: Widths + Drop> Terminal<W> {
         ensures fails { IsErrOf result TerminalError.Number → IsTrue self.new.is_failed }
         ensures memory { IsErrOf result TerminalError.Memory → self.new.is_failed ≡ true
             → self.new.surface.is_failed ≡ true }
+        ensures numbered { (IsErrOf result TerminalError.Number → ⊥) → self.old.is_failed ≡ false
+            → HasNumbers (λ w. W.width_of w) self.old (Look ∷ []) }
         ensures stays { IsTrue self.old.is_failed → IsTrue self.new.is_failed }
         ensures nothing { self.old.run ≡ [] → self.old.is_failed ≡ false → self.new.is_failed ≡ false }
     {
@@ -176,7 +179,7 @@ impl<W: Widths + Drop> Terminal<W> {
         Ok((self.current_number(), bytes))
     }
 
-    // What a viewer is sent that shows what another terminal shows.
+    // The bytes that bring a viewer up to date that shows what another terminal shows.
     fn patch_from(&self, shown: &Terminal<W>) -> Result<Vec<u8>, AllocError>
         requires sound { self.now.is_failed ≡ false }
         requires shown { shown.now.is_failed ≡ false }
@@ -187,11 +190,11 @@ impl<W: Widths + Drop> Terminal<W> {
         patch(self.alloc, self.state.surface(), shown.state.surface())
     }
 
-    /// Settles, and answers the number of changes so far and the bytes that a viewer is sent which shows the screen
-    /// of another terminal, of this size and these widths, that hasn't failed: the title, the cells that aren't shown
-    /// yet, each once, the cursor's position, the pen, and whether the cursor is visible. Fed to an idle terminal of
-    /// this size and these widths that shows the other one's screen, they leave it idle with this one's screen. The
-    /// position of a pending wrap is sent as the last cell of its row once more.
+    /// Settles, and returns the number of changes so far and the bytes that bring a viewer up to date that shows the
+    /// screen of another terminal, of this size and these widths, that hasn't failed: the title, the cells that
+    /// aren't shown yet, each once, the cursor's position, the pen, and whether the cursor is visible. Fed to an idle
+    /// terminal of this size and these widths that shows the other one's screen, they leave it idle with this one's
+    /// screen. The position of a pending wrap is encoded as the last cell of its row once more.
     ///
     /// Refuses as `feed` does. Where the bytes are refused memory the terminal hasn't failed: it is as after
     /// `settle`, and the same call, asked again, gives what it would have given.
@@ -209,6 +212,8 @@ impl<W: Widths + Drop> Terminal<W> {
         ensures fails { IsErrOf result TerminalError.Number → IsTrue self.new.is_failed }
         ensures memory { IsErrOf result TerminalError.Memory → self.new.is_failed ≡ true
             → self.new.surface.is_failed ≡ true }
+        ensures numbered { (IsErrOf result TerminalError.Number → ⊥) → self.old.is_failed ≡ false
+            → HasNumbers (λ w. W.width_of w) self.old (Look ∷ []) }
         ensures stays { IsTrue self.old.is_failed → IsTrue self.new.is_failed }
         ensures nothing { self.old.run ≡ [] → self.old.is_failed ≡ false → self.new.is_failed ≡ false }
     {

@@ -2,9 +2,10 @@
 ghost use Rattle.std.specs.Prelude.{◌≡◌, ◌↔◌, ◌<◌, ◌≤◌, ◌^◌, false, IsTrue, IsErr, IfOk, IfSome, OnOk, OnErr, IsErrOf};
 ghost use Rattle.std.specs.Prelude.{[], ◌∷◌};
 ghost use Rattle.std.specs.Io.KnownBytes.{Appends};
+ghost use Rattle.cell_base.specs.ScreenSize.{IsScreenSize};
 ghost use Rattle.terminal.specs.Written.{LooksNeedNumber, Sends, SendsAll, SendsChunks, SendsChunksOf, SendsFirst};
 ghost use Rattle.terminal.specs.Written.{SendsPart, SendsSome, due_from, number_after, update_count};
-ghost use Rattle.terminal.specs.Refusals.{NeedsNumber};
+ghost use Rattle.terminal.specs.Refusals.{HasNumbers, IsRefusedMemory, NeedsNumber, ReadingIsRefusedMemory, all_looks};
 ghost use Rattle.terminal.specs.Watched.{IsUnread, counted, counted_by};
 ghost use Rattle.terminal_table.specs.History.{Look};
 ghost use Rattle.terminal_viewers.specs.Updates.{new_standing, updates};
@@ -18,8 +19,8 @@ use std::alloc::Global;
 use std::io::{Read, Write};
 use terminal_steps::TerminalError;
 
-// Writes what a viewer is sent that has seen the changes before a number, and forgets the changes and the
-// replies that nobody is sent any more; answers the number that the viewer has seen then.
+// Writes the update of a viewer that has seen the changes before a number, and forgets the changes and the
+// replies that nobody needs any more; returns the number that the viewer has seen then.
 fn write_update<T: Write, W: Widths + Drop>(
     terminal: &mut Terminal<W>,
     writer: &mut Watched<T>,
@@ -44,6 +45,8 @@ fn write_update<T: Write, W: Widths + Drop>(
     ensures failed { IsErrOf result (RunError.Terminal TerminalError.Failed) → ⊥ }
     ensures number { IsErrOf result (RunError.Terminal TerminalError.Number)
         → NeedsNumber (λ w. W.width_of w) terminal.old (Look ∷ []) }
+    ensures memory { IsErrOf result (RunError.Terminal TerminalError.Memory)
+        → HasNumbers (λ w. W.width_of w) terminal.old (Look ∷ []) }
 {
     let (next, bytes) = terminal.update(number)?;
     write_and_flush(writer, &bytes)?;
@@ -89,6 +92,9 @@ fn write_updates<R: Read, T: Write, W: Widths + Drop>(
     ensures failed { IsErrOf result (RunError.Terminal TerminalError.Failed) → ⊥ }
     ensures number { IsErrOf result (RunError.Terminal TerminalError.Number)
         → LooksNeedNumber (λ w. W.width_of w) every terminal.old (R.remaining reader.old.inner) }
+    ensures memory { IsErrOf result (RunError.Terminal TerminalError.Memory)
+        → ReadingIsRefusedMemory (λ w. W.width_of w) (all_looks every) terminal.old (R.remaining reader.old.inner)
+        (R.remaining reader.new.inner) }
     ensures flushes { OnOk result (IfSome (R.remaining reader.old.inner) (λ input.
         writer.new.flushes ≡ counted_by (update_count every input) writer.old.flushes)) }
     ensures flushed { OnOk result (IsTrue writer.new.is_flushed) }
@@ -139,8 +145,7 @@ pub fn run<R: Read, T: Write, W: Widths + Drop>(
     every: usize,
     widths: W,
 ) -> Result<(), RunError>
-    requires width { (0 < width) × (width < 2 ^ 32) }
-    requires height { (0 < height) × (height < 2 ^ 32) }
+    requires size { IsScreenSize width height }
     requires every { 0 < every }
     requires reader { IsUnread reader.old }
     requires writer { writer.old.has_failed ≡ false }
@@ -163,6 +168,10 @@ pub fn run<R: Read, T: Write, W: Widths + Drop>(
     ensures number { IsErrOf result (RunError.Terminal TerminalError.Number)
         → IfSome (R.remaining reader.old.inner)
         (λ input. 2 ^ 64 ≤ number_after (W.width_of widths) every (new_standing width height) input) }
+    // Where memory is refused, what was read last takes some, or all that was read has numbers, with its looks.
+    ensures memory { IsErrOf result (RunError.Terminal TerminalError.Memory) → IfSome (R.remaining reader.old.inner)
+        (λ input. IsRefusedMemory (W.width_of widths) (new_standing width height) (all_looks every) input
+        (R.remaining reader.new.inner)) }
     // It flushes once after each update, and nothing is written after the last flush.
     ensures flushes { OnOk result (IfSome (R.remaining reader.old.inner) (λ input.
         writer.new.flushes ≡ counted_by (update_count every input) writer.old.flushes)) }

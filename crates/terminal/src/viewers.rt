@@ -1,7 +1,8 @@
 //! Laws of viewers, as the contracts of functions that do nothing.
-ghost use Rattle.std.specs.Prelude.{◌≡◌, ℕ, ◌+◌, ◌*◌, ◌++◌, All, map, take, ◌<◌, ◌≤◌, ◌^◌, false, List, [], ◌∷◌};
+ghost use Rattle.std.specs.Prelude.{◌≡◌, ℕ, ◌+◌, ◌*◌, ◌++◌, All, map, take, ◌≤◌, false, List, [], ◌∷◌};
 ghost use Rattle.std.specs.Prelude.{length, Some};
 ghost use Rattle.cell_base.specs.Screen.{Screen, height};
+ghost use Rattle.cell_base.specs.ScreenSize.{IsScreenSize};
 ghost use Rattle.screen_change.specs.ChangeValue.{ChangeValue};
 ghost use Rattle.cell_surface.specs.Surface.{number_of};
 ghost use Rattle.escape_stream.specs.StreamAction.{StreamAction};
@@ -11,8 +12,8 @@ ghost use Rattle.screen_effects.specs.Display.{IsDisplay};
 ghost use Rattle.screen_effects.specs.Effect.{effect};
 ghost use Rattle.terminal.specs.Headline.{StandsAt, GoesBy, PatchesPrintFresh, ViewersShow};
 ghost use Rattle.terminal.specs.Terminal.{Terminal, IsIdle, state_in};
-ghost use Rattle.terminal.specs.Viewing.{CanReadFrom, ShowsAt, changes_for, patch_from, standing_of, update_for};
-ghost use Rattle.terminal.specs.Viewing.{update_prints};
+ghost use Rattle.terminal.specs.Viewing.{CanReadFrom, CanReadSince, ShowsAt, changes_for, patch_from, standing_of};
+ghost use Rattle.terminal.specs.Viewing.{update_for, update_prints};
 ghost use Rattle.terminal_table.specs.Prints.{IsPlain};
 ghost use Rattle.terminal_render.specs.Rendering.{rendering};
 ghost use Rattle.terminal_viewers.specs.Sessions.{Answer, Turn, new_chain, round, session};
@@ -45,14 +46,12 @@ use terminal_viewers::viewers::{
 /// that number, leaves one that shows the terminal's screen, with its saved cursor and its replies as they were, and
 /// idle.
 pub fn updates_are_shown<W: Widths + Drop>(terminal: &Terminal<W>, viewer: &Terminal<W>)
-    ensures shown { (number : ℕ) (after : Terminal W) → terminal.now.is_failed ≡ false → viewer.now.is_failed ≡ false
-        → IsIdle viewer.now → W.width_of viewer.now.surface.grid.widths ≡ W.width_of terminal.now.surface.grid.widths
-        → ShowsAt (λ w. W.width_of w) (state_in viewer.now).screen number terminal.now
+    ensures shown { (number : ℕ) (after : Terminal W)
+        → CanReadSince (λ w. W.width_of w) terminal.now viewer.now number
         → GoesBy (λ w. W.width_of w) viewer.now after (Piece (update_for terminal.now number) ∷ [])
         → state_in after ≡ record (state_in viewer.now) { screen = (state_in terminal.now).screen } }
-    ensures idle { (number : ℕ) (after : Terminal W) → terminal.now.is_failed ≡ false → viewer.now.is_failed ≡ false
-        → IsIdle viewer.now → W.width_of viewer.now.surface.grid.widths ≡ W.width_of terminal.now.surface.grid.widths
-        → ShowsAt (λ w. W.width_of w) (state_in viewer.now).screen number terminal.now
+    ensures idle { (number : ℕ) (after : Terminal W)
+        → CanReadSince (λ w. W.width_of w) terminal.now viewer.now number
         → GoesBy (λ w. W.width_of w) viewer.now after (Piece (update_for terminal.now number) ∷ []) → IsIdle after }
 {
     terminal.stands();
@@ -218,13 +217,13 @@ pub fn renderings_are_shown<W: Widths + Drop>(viewer: &Terminal<W>)
 /// reads the input and takes a look after each chunk of `every` bytes and at the end; and it is idle.
 pub fn new_viewers_show_the_input<W: Widths>()
     ensures shown { (widths : W) (width : ℕ) (height : ℕ) (every : ℕ) (input : List ℕ) (new : Terminal W)
-        (after : Terminal W) → 0 < width → width < 2 ^ 32 → 0 < height → height < 2 ^ 32
-        → StandsAt new (new_view width height) → new.surface.grid.widths ≡ widths
+        (after : Terminal W) → IsScreenSize width height → StandsAt new (new_view width height)
+        → new.surface.grid.widths ≡ widths
         → GoesBy (λ w. W.width_of w) new after (Piece (updates (W.width_of widths) width height every input) ∷ [])
         → (state_in after).screen ≡ (updated (W.width_of widths) width height every input).state.screen }
     ensures idle { (widths : W) (width : ℕ) (height : ℕ) (every : ℕ) (input : List ℕ) (new : Terminal W)
-        (after : Terminal W) → 0 < width → width < 2 ^ 32 → 0 < height → height < 2 ^ 32
-        → StandsAt new (new_view width height) → new.surface.grid.widths ≡ widths
+        (after : Terminal W) → IsScreenSize width height → StandsAt new (new_view width height)
+        → new.surface.grid.widths ≡ widths
         → GoesBy (λ w. W.width_of w) new after (Piece (updates (W.width_of widths) width height every input) ∷ [])
         → IsIdle after }
 {

@@ -18,7 +18,7 @@ use Rattle.escape_stream.specs.StreamAction.{StreamAction}
 use Rattle.escape_stream.specs.StreamText.{action_text, begins_terminated, closes_string, stream_text, text_after, texts_after}
 use Rattle.screen_effects.specs.Strokes.{TextPart, Control, Plain, text_parts}
 use Rattle.terminal_render.specs.Links.{is_carried, is_plain_text}
-use Rattle.terminal_render.specs.Pen.{rendition, attribute_action, pen_actions, is_unsaid, pen_settings, pen_rendering, plain_pen, clear_rendering, colour_setting}
+use Rattle.terminal_render.specs.Pen.{rendition, attribute_action, pen_actions, lacks_encoding, pen_settings, pen_rendering, plain_pen, clear_rendering, colour_setting}
 use Rattle.terminal_render.specs.Positions.{position_moves}
 use Rattle.terminal_render.specs.Rendering.{moved, is_whole, scroll_rendering, rendering}
 use Rattle.terminal_render.specs.Texts.{part_actions, text_rendering, title_rendering}
@@ -84,13 +84,13 @@ attribute_opens (one.Hyperlink link) = link_opens link
 
 pen_opens : (a : Attributes) → AllOpen (pen_rendering a)
 unfolding pen_rendering
-pen_opens a = by_test (is_unsaid a) refl
+pen_opens a = by_test (lacks_encoding a) refl
   where
     by_settings : (found : Option (List (Option Sgr))) → AllOpen (option_map (λ values. pen_actions values a.hyperlink) found)
     by_settings None = tt
     by_settings (Some values) = refl
 
-    by_test : (b : Bool) → is_unsaid a ≡ b → AllOpen (pen_rendering a)
+    by_test : (b : Bool) → lacks_encoding a ≡ b → AllOpen (pen_rendering a)
     by_test true e = rw e tt
     by_test false e = rw e (by_settings (pen_settings a))
 

@@ -27,7 +27,7 @@ use Rattle.terminal_table.specs.State.{SavedCursor}
 use Rattle.terminal_table.specs.Functions.{function_of}
 use Rattle.terminal_table.specs.Steps.{with_rendition, with_link}
 use Rattle.terminal_render.specs.Effects.{actions_done}
-use Rattle.terminal_render.specs.Pen.{rendition, link_action, unless_normal, unless_none, unless_steady, unless_off, unless_base_line, unless_default, settings, set, pen_actions, is_output, is_unsaid}
+use Rattle.terminal_render.specs.Pen.{rendition, link_action, unless_normal, unless_none, unless_steady, unless_off, unless_base_line, unless_default, settings, set, pen_actions, is_output, lacks_encoding}
 use Rattle.terminal_render.specs.Links.{is_carried}
 use Rattle.terminal_render.proofs.DoneLemmas.{on, done_append}
 
@@ -147,7 +147,7 @@ output_type type.Input e = cc
 output_type type.Prompt e = cc
 
 -- so, with the link, the attributes are the pen
-pen_is : (a : Attributes) (prefix back line : ColorSpec) → is_unsaid a ≡ false → attribute_of prefix ≡ a.foreground → attribute_of back ≡ a.background → attribute_of line ≡ a.underline_color
+pen_is : (a : Attributes) (prefix back line : ColorSpec) → lacks_encoding a ≡ false → attribute_of prefix ≡ a.foreground → attribute_of back ≡ a.background → attribute_of line ≡ a.underline_color
     → settled_pen a.hyperlink a prefix back line ≡ a
 pen_is a prefix back line e f b l =
     let both = or_parts (a.wrapped || not (is_output a.semantic_type)) (not (is_carried a.hyperlink)) e in
@@ -195,7 +195,7 @@ module _ (f : List ℕ → ℕ) (saved : Option SavedCursor) (replies : List ℕ
       ∙ settings_do values (with_pen (set_pen s.pen value) s)
 
   -- all attributes
-  pub pen_does : (a : Attributes) (prefix back line : ColorSpec) (s : Screen) → is_unsaid a ≡ false → attribute_of prefix ≡ a.foreground → attribute_of back ≡ a.background → attribute_of line ≡ a.underline_color
+  pub pen_does : (a : Attributes) (prefix back line : ColorSpec) (s : Screen) → lacks_encoding a ≡ false → attribute_of prefix ≡ a.foreground → attribute_of back ≡ a.background → attribute_of line ≡ a.underline_color
       → actions_done f (on f saved replies stream s) (pen_actions (settings a prefix back line) a.hyperlink) ≡ on f saved replies stream (with_pen a s)
   pen_does a prefix back line s e k b l =
       done_append f saved replies stream (rendition sgr.Reset ∷ []) (flat_map set (settings a prefix back line) ++ link_action a.hyperlink ∷ []) (on f saved replies stream s)

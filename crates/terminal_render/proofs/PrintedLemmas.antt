@@ -19,7 +19,7 @@ use Rattle.escape_stream.specs.StreamAction.{StreamAction, control, printed}
 use Rattle.screen_effects.specs.Strokes.{TextPart, Control, Plain, with_byte, text_parts}
 use Rattle.terminal_render.specs.Links.{is_carried, is_plain_text}
 use Rattle.terminal_render.specs.Lists.{all_rendered}
-use Rattle.terminal_render.specs.Pen.{colour_setting, rendition, link_action, attribute_setting, attribute_action, unless_default, set, pen_actions, is_unsaid, pen_settings, pen_rendering, plain_pen, clear_rendering}
+use Rattle.terminal_render.specs.Pen.{colour_setting, rendition, link_action, attribute_setting, attribute_action, unless_default, set, pen_actions, lacks_encoding, pen_settings, pen_rendering, plain_pen, clear_rendering}
 use Rattle.terminal_render.specs.Positions.{position_moves}
 use Rattle.terminal_render.specs.Rendering.{moved, is_whole, scroll_rendering, rendering}
 use Rattle.terminal_render.specs.Texts.{run_actions, part_actions, text_rendering, title_rendering}
@@ -91,7 +91,7 @@ unfolding text_rendering title_rendering pen_rendering
 change_prints (Text text) width height = cond_both (holds_c1 text) _ _ (Prints (run_in (Text text))) (λ e. tt) (λ e. text_prints text)
 change_prints (Title text) width height = cond_both (is_plain_text text) _ _ (Prints []) (λ e. refl) (λ e. tt)
 change_prints (Attribute value) width height = value_prints value
-change_prints (AllAttributes a) width height = cond_both (is_unsaid a) _ _ (Prints []) (λ e. tt) (λ e. mapped (λ values. pen_actions values a.hyperlink) (λ values. sets_print values (link_action a.hyperlink ∷ []) refl) (pen_settings a))
+change_prints (AllAttributes a) width height = cond_both (lacks_encoding a) _ _ (Prints []) (λ e. tt) (λ e. mapped (λ values. pen_actions values a.hyperlink) (λ values. sets_print values (link_action a.hyperlink ∷ []) refl) (pen_settings a))
 change_prints (ClearScreen color) width height = clear_prints color _ refl
 change_prints (ClearToEndOfLine color) width height = clear_prints color _ refl
 change_prints (ClearToEndOfScreen color) width height = clear_prints color _ refl

@@ -35,7 +35,7 @@ use Rattle.screen_effects.specs.Strokes.{TextPart, Control, Plain, with_byte, te
 use Rattle.terminal_table.specs.Turns.{IsPrinted}
 use Rattle.terminal_render.specs.Carried.{IsColor, HaveColors, HasColor, IsChange}
 use Rattle.terminal_render.specs.Links.{is_carried, is_plain_text}
-use Rattle.terminal_render.specs.Pen.{colour_setting, rendition, link_action, attribute_action, unless_default, settings, set, pen_actions, is_unsaid, pen_rendering, plain_pen, clear_rendering}
+use Rattle.terminal_render.specs.Pen.{colour_setting, rendition, link_action, attribute_action, unless_default, settings, set, pen_actions, lacks_encoding, pen_rendering, plain_pen, clear_rendering}
 use Rattle.terminal_render.specs.Positions.{Way, At, Back, On, way_of, is_past, move_by, moves, position_moves}
 use Rattle.terminal_render.specs.Rendering.{edited, moved, is_whole, scroll_rendering, visibility_mode, rendering}
 use Rattle.terminal_render.specs.Sizes.{link_size, carried_size, RenderingsAreShort, TextsAreShort, RunsAreShort}
@@ -143,7 +143,7 @@ module _ (short : ActionsAreShort) (titles : (text : List ℕ) → TextsTakeSix 
 
   pen_is : (a : Attributes) → HaveColors a → Within (link_size a.hyperlink + 320) (pen_rendering a)
   unfolding pen_rendering
-  pen_is a h = by_test (is_unsaid a) refl
+  pen_is a h = by_test (lacks_encoding a) refl
     where
       by_line : (prefix rear : ColorSpec) → IsColour prefix → IsColour rear → (found : Option ColorSpec) → IfSome found IsColour
           → Within (link_size a.hyperlink + 320) (option_map (λ values. pen_actions values a.hyperlink) (option_map (λ line. settings a prefix rear line) found))
@@ -160,7 +160,7 @@ module _ (short : ActionsAreShort) (titles : (text : List ℕ) → TextsTakeSix 
       by_prefix None f = tt
       by_prefix (Some prefix) f = by_rear prefix f (colour_setting a.background) (color_is a.background h.1)
 
-      by_test : (b : Bool) → is_unsaid a ≡ b → Within (link_size a.hyperlink + 320) (pen_rendering a)
+      by_test : (b : Bool) → lacks_encoding a ≡ b → Within (link_size a.hyperlink + 320) (pen_rendering a)
       by_test true e = rw e tt
       by_test false e = rw e (by_prefix (colour_setting a.foreground) (color_is a.foreground h.0))
 
@@ -286,4 +286,4 @@ module _ (short : ActionsAreShort) (titles : (text : List ℕ) → TextsTakeSix 
   all_within (LineAttribute size) width height h a b c d t = tt
 
   pub renderings_are_short : RenderingsAreShort
-  renderings_are_short change width height actions h a b c d t stands = found_short (carried_size change + 320) (rendering change width height) actions stands (all_within change width height h a b c d t)
+  renderings_are_short change width height actions h size t stands = found_short (carried_size change + 320) (rendering change width height) actions stands (all_within change width height h size.columns.0 size.columns.1 size.rows.0 size.rows.1 t)

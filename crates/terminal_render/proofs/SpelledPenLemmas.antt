@@ -11,7 +11,7 @@ use Rattle.cell_base.specs.Attributes.{Attributes}
 use Rattle.screen_change.proofs.TextLemmas.{by_test}
 use Rattle.terminal_render.specs.Carried.{IsColor, HaveColors}
 use Rattle.terminal_render.specs.Links.{is_carried}
-use Rattle.terminal_render.specs.Pen.{colour_setting, settings, pen_actions, is_output, is_unsaid, pen_settings, pen_rendering}
+use Rattle.terminal_render.specs.Pen.{colour_setting, settings, pen_actions, is_output, lacks_encoding, pen_settings, pen_rendering}
 use Rattle.terminal_render.specs.Spelling.{IsSpelledColor, IsSpelledPen}
 
 -- ---- options
@@ -59,7 +59,7 @@ settings_some a p =
 pub pen_some : (a : Attributes) → IsSpelledPen a → pen_rendering a ≢ None
 unfolding pen_rendering
 pen_some a p =
-    let said : is_unsaid a ≡ false = λ i. p.unwrapped i || not (is_output (p.output i)) || not (p.link i) in
+    let said : lacks_encoding a ≡ false = λ i. p.unwrapped i || not (is_output (p.output i)) || not (p.link i) in
     subst (λ b. (if b then None else option_map (λ values. pen_actions values a.hyperlink) (pen_settings a)) ≢ None) (sym said) (map_some (λ values. pen_actions values a.hyperlink) (pen_settings a) (settings_some a p))
 
 -- each of three is there where what is made of them is
@@ -90,14 +90,14 @@ mapped_some f (Some x) k = some_is x
 pub some_pen : (a : Attributes) → HaveColors a → pen_rendering a ≢ None → IsSpelledPen a
 unfolding pen_rendering
 some_pen a k h =
-    by_test (is_unsaid a)
+    by_test (lacks_encoding a)
     (λ e. absurd (h (ap (λ b. if b then None else option_map (λ values. pen_actions values a.hyperlink) (pen_settings a)) e)))
     (λ e.
     let found = subst (λ b. (if b then None else option_map (λ values. pen_actions values a.hyperlink) (pen_settings a)) ≢ None) e h in
     let colors = three_some (settings a) (colour_setting a.foreground) (colour_setting a.background) (colour_setting a.underline_color) (mapped_some (λ values. pen_actions values a.hyperlink) (pen_settings a) found) in
     said a e (setting_spelled a.foreground k.0 colors.first) (setting_spelled a.background k.1 colors.second) (setting_spelled a.underline_color k.2 colors.third))
   where
-    said : (a : Attributes) → is_unsaid a ≡ false → IsSpelledColor a.foreground → IsSpelledColor a.background → IsSpelledColor a.underline_color → IsSpelledPen a
+    said : (a : Attributes) → lacks_encoding a ≡ false → IsSpelledColor a.foreground → IsSpelledColor a.background → IsSpelledColor a.underline_color → IsSpelledPen a
     said a e prefix back line =
         let both = or_parts (a.wrapped || not (is_output a.semantic_type)) (not (is_carried a.hyperlink)) e in
         let first = or_parts a.wrapped (not (is_output a.semantic_type)) both.0 in

@@ -23,7 +23,7 @@ use Rattle.terminal_table.specs.State.{SavedCursor}
 use Rattle.terminal_table.specs.Functions.{function_of}
 use Rattle.terminal_render.specs.Effects.{actions_done, with_change, RenderingsHaveTheEffect}
 use Rattle.terminal_render.specs.Links.{is_carried, is_plain_text}
-use Rattle.terminal_render.specs.Pen.{colour_setting, attribute_action, is_unsaid, pen_actions, settings, pen_rendering}
+use Rattle.terminal_render.specs.Pen.{colour_setting, attribute_action, lacks_encoding, pen_actions, settings, pen_rendering}
 use Rattle.terminal_render.specs.Rendering.{rendering}
 use Rattle.terminal_render.specs.Texts.{text_rendering, title_rendering}
 use Rattle.terminal_render.proofs.DoneLemmas.{on, text_does}
@@ -100,24 +100,24 @@ module _ (f : List ℕ → ℕ) (saved : Option SavedCursor) (replies : List ℕ
 
   pen_makes : (a : Attributes) → Makes (pen_rendering a) (effect f d (AllAttributes a)).screen
   unfolding pen_rendering
-  pen_makes a = by_test (is_unsaid a) refl
+  pen_makes a = by_test (lacks_encoding a) refl
     where
-      by_line : is_unsaid a ≡ false → (prefix back : ColorSpec) → colour_setting a.foreground ≡ Some prefix → colour_setting a.background ≡ Some back → (found : Option ColorSpec) → colour_setting a.underline_color ≡ found
+      by_line : lacks_encoding a ≡ false → (prefix back : ColorSpec) → colour_setting a.foreground ≡ Some prefix → colour_setting a.background ≡ Some back → (found : Option ColorSpec) → colour_setting a.underline_color ≡ found
           → Makes (option_map (λ values. pen_actions values a.hyperlink) (option_map (λ line. settings a prefix back line) found)) (with_pen a d.screen)
       by_line e prefix back k b None l = tt
       by_line e prefix back k b (Some line) l = pen_does f saved replies stream a prefix back line d.screen e (told a.foreground prefix k) (told a.background back b) (told a.underline_color line l)
 
-      by_back : is_unsaid a ≡ false → (prefix : ColorSpec) → colour_setting a.foreground ≡ Some prefix → (found : Option ColorSpec) → colour_setting a.background ≡ found
+      by_back : lacks_encoding a ≡ false → (prefix : ColorSpec) → colour_setting a.foreground ≡ Some prefix → (found : Option ColorSpec) → colour_setting a.background ≡ found
           → Makes (option_map (λ values. pen_actions values a.hyperlink) (option_and_then (λ back. option_map (λ line. settings a prefix back line) (colour_setting a.underline_color)) found)) (with_pen a d.screen)
       by_back e prefix k None b = tt
       by_back e prefix k (Some back) b = by_line e prefix back k b (colour_setting a.underline_color) refl
 
-      by_prefix : is_unsaid a ≡ false → (found : Option ColorSpec) → colour_setting a.foreground ≡ found
+      by_prefix : lacks_encoding a ≡ false → (found : Option ColorSpec) → colour_setting a.foreground ≡ found
           → Makes (option_map (λ values. pen_actions values a.hyperlink) (option_and_then (λ prefix. option_and_then (λ back. option_map (λ line. settings a prefix back line) (colour_setting a.underline_color)) (colour_setting a.background)) found)) (with_pen a d.screen)
       by_prefix e None k = tt
       by_prefix e (Some prefix) k = by_back e prefix k (colour_setting a.background) refl
 
-      by_test : (b : Bool) → is_unsaid a ≡ b → Makes (pen_rendering a) (effect f d (AllAttributes a)).screen
+      by_test : (b : Bool) → lacks_encoding a ≡ b → Makes (pen_rendering a) (effect f d (AllAttributes a)).screen
       by_test true e = rw e tt
       by_test false e = rw e (by_prefix e (colour_setting a.foreground) refl)
 

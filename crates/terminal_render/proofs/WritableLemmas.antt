@@ -44,7 +44,7 @@ use Rattle.escape_stream.specs.StreamWritable.{IsReadBack, IsPrintableText, IsWr
 use Rattle.screen_effects.specs.Strokes.{TextPart, Control, Plain, text_parts}
 use Rattle.terminal_render.specs.Carried.{IsColor, HaveColors, HasColor, IsChange, RenderingsAreWritable}
 use Rattle.terminal_render.specs.Links.{is_plain_text, is_plain_param, has_plain_texts, reads_back, is_carried}
-use Rattle.terminal_render.specs.Pen.{colour_setting, rendition, link_action, attribute_action, unless_default, settings, set, pen_actions, is_output, is_unsaid, pen_rendering, plain_pen, clear_rendering}
+use Rattle.terminal_render.specs.Pen.{colour_setting, rendition, link_action, attribute_action, unless_default, settings, set, pen_actions, is_output, lacks_encoding, pen_rendering, plain_pen, clear_rendering}
 use Rattle.terminal_render.specs.Positions.{way_of, is_past, moves, position_moves}
 use Rattle.terminal_render.specs.Rendering.{edited, moved, is_whole, scroll_rendering, visibility_mode, rendering}
 use Rattle.terminal_render.specs.Texts.{run_actions, part_actions, text_rendering, title_rendering}
@@ -197,7 +197,7 @@ module _ (back : WritableActionsReadBack) (prefixes : WritableTextsAreSequences)
   link_alone : (link : Option Link) → is_carried link ≡ true → AreAlone (link_action link ∷ [])
   link_alone link e = (link_writable link e, tt)
 
-  pen_alone : (a : Attributes) (prefix rear line : ColorSpec) → is_unsaid a ≡ false → IsColour prefix → IsColour rear → IsColour line → AreAlone (pen_actions (settings a prefix rear line) a.hyperlink)
+  pen_alone : (a : Attributes) (prefix rear line : ColorSpec) → lacks_encoding a ≡ false → IsColour prefix → IsColour rear → IsColour line → AreAlone (pen_actions (settings a prefix rear line) a.hyperlink)
   pen_alone a prefix rear line e f r l =
       let carried : is_carried a.hyperlink ≡ true = is_on (is_carried a.hyperlink) (or_parts (a.wrapped || not (is_output a.semantic_type)) (not (is_carried a.hyperlink)) e).1 in
       (sequence (codec.sgr sgr.Reset) tt, alone_append (flat_map set (settings a prefix rear line)) (link_action a.hyperlink ∷ []) (sets_alone (settings a prefix rear line) (settings_set a prefix rear line f r l)) (link_alone a.hyperlink carried))
@@ -208,24 +208,24 @@ module _ (back : WritableActionsReadBack) (prefixes : WritableTextsAreSequences)
 
   pen_is : (a : Attributes) → HaveColors a → Alone (pen_rendering a)
   unfolding pen_rendering
-  pen_is a h = by_test (is_unsaid a) refl
+  pen_is a h = by_test (lacks_encoding a) refl
     where
-      by_line : is_unsaid a ≡ false → (prefix rear : ColorSpec) → IsColour prefix → IsColour rear → (found : Option ColorSpec) → IfSome found IsColour
+      by_line : lacks_encoding a ≡ false → (prefix rear : ColorSpec) → IsColour prefix → IsColour rear → (found : Option ColorSpec) → IfSome found IsColour
           → Alone (option_map (λ values. pen_actions values a.hyperlink) (option_map (λ line. settings a prefix rear line) found))
       by_line e prefix rear f r None l = tt
       by_line e prefix rear f r (Some line) l = pen_alone a prefix rear line e f r l
 
-      by_rear : is_unsaid a ≡ false → (prefix : ColorSpec) → IsColour prefix → (found : Option ColorSpec) → IfSome found IsColour
+      by_rear : lacks_encoding a ≡ false → (prefix : ColorSpec) → IsColour prefix → (found : Option ColorSpec) → IfSome found IsColour
           → Alone (option_map (λ values. pen_actions values a.hyperlink) (option_and_then (λ rear. option_map (λ line. settings a prefix rear line) (colour_setting a.underline_color)) found))
       by_rear e prefix f None r = tt
       by_rear e prefix f (Some rear) r = by_line e prefix rear f r (colour_setting a.underline_color) (color_is a.underline_color h.2)
 
-      by_prefix : is_unsaid a ≡ false → (found : Option ColorSpec) → IfSome found IsColour
+      by_prefix : lacks_encoding a ≡ false → (found : Option ColorSpec) → IfSome found IsColour
           → Alone (option_map (λ values. pen_actions values a.hyperlink) (option_and_then (λ prefix. option_and_then (λ rear. option_map (λ line. settings a prefix rear line) (colour_setting a.underline_color)) (colour_setting a.background)) found))
       by_prefix e None f = tt
       by_prefix e (Some prefix) f = by_rear e prefix f (colour_setting a.background) (color_is a.background h.1)
 
-      by_test : (b : Bool) → is_unsaid a ≡ b → Alone (pen_rendering a)
+      by_test : (b : Bool) → lacks_encoding a ≡ b → Alone (pen_rendering a)
       by_test true e = rw e tt
       by_test false e = rw e (by_prefix e (colour_setting a.foreground) (color_is a.foreground h.0))
 
@@ -329,4 +329,4 @@ module _ (back : WritableActionsReadBack) (prefixes : WritableTextsAreSequences)
   rendering_alone change width height actions h a b c d stands = subst (λ (found : Option (List StreamAction)). IfSome found AreAlone) stands (all_alone change width height h a b c d)
 
   pub are_writable : RenderingsAreWritable
-  are_writable change width height actions h a b c d stands = writable_alone actions (rendering_alone change width height actions h a b c d stands)
+  are_writable change width height actions h size stands = writable_alone actions (rendering_alone change width height actions h size.columns.0 size.columns.1 size.rows.0 size.rows.1 stands)

@@ -1,11 +1,12 @@
 -- What the laws say of the bytes of actions that are sent: a stream carries them.
-use Rattle.std.specs.Prelude.{◌≡◌, ℕ, ◌<◌, ◌≤◌, ◌^◌, ⊤, List, Some}
+use Rattle.std.specs.Prelude.{◌≡◌, ℕ, ◌≤◌, ⊤, List, Some}
 use Rattle.std.specs.Str.{IsUtf8}
 use Rattle.cell_base.specs.declared.color.ColorAttribute.{ColorAttribute}
 use Rattle.cell_base.specs.declared.color.ColorAttribute.TheVariants as attribute
 use Rattle.cell_base.specs.Attributes.{Attributes}
 use Rattle.cell_base.specs.AttributeValue as one
 use Rattle.cell_base.specs.AttributeValue.{AttributeValue}
+use Rattle.cell_base.specs.ScreenSize.{IsScreenSize}
 use Rattle.screen_change.specs.ChangeValue.{ChangeValue, Attribute, AllAttributes, Text, ClearScreen, ClearToEndOfLine}
 use Rattle.screen_change.specs.ChangeValue.{ClearToEndOfScreen, Title}
 use Rattle.escape_stream.specs.StreamAction.{StreamAction}
@@ -41,6 +42,5 @@ IsChange _ = ⊤
 -- what is sent for a change is a list of actions that reads back from its bytes
 abbrev pub RenderingsAreWritable : Type 0
 RenderingsAreWritable =
-    (change : ChangeValue) (width height : ℕ) (actions : List StreamAction) → IsChange change → 0 < width
-    → width < 2 ^ 32 → 0 < height → height < 2 ^ 32
-    → rendering change width height ≡ Some actions → IsWritable actions
+    (change : ChangeValue) (width height : ℕ) (actions : List StreamAction) → IsChange change
+    → IsScreenSize width height → rendering change width height ≡ Some actions → IsWritable actions

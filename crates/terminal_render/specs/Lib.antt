@@ -1,4 +1,3 @@
-pub mod ScreenSize
 pub mod Links
 pub mod Texts
 pub mod Pen

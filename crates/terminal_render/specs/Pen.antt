@@ -112,8 +112,8 @@ is_output _ = false
 
 -- whether attributes have what no action sets: a row that goes on, a type other than output, or a link that isn't
 -- carried
-abbrev pub is_unsaid : Attributes → Bool
-is_unsaid a = a.wrapped || not (is_output a.semantic_type) || not (is_carried a.hyperlink)
+abbrev pub lacks_encoding : Attributes → Bool
+lacks_encoding a = a.wrapped || not (is_output a.semantic_type) || not (is_carried a.hyperlink)
 
 -- the settings with the colours of the attributes, if each can be encoded
 abbrev pub pen_settings : Attributes → Option (List (Option Sgr))
@@ -124,7 +124,7 @@ pen_settings a =
     (colour_setting a.background)) (colour_setting a.foreground)
 
 unfoldable pub pen_rendering : Attributes → Option (List StreamAction)
-pen_rendering a = if is_unsaid a then None else option_map (λ values. pen_actions values a.hyperlink) (pen_settings a)
+pen_rendering a = if lacks_encoding a then None else option_map (λ values. pen_actions values a.hyperlink) (pen_settings a)
 
 -- ---- clears: blanks of the pen's background (ED, EL), so a plain pen on the colour is set before them
 

@@ -1,9 +1,10 @@
 -- How many bytes are sent for a change at most.
-use Rattle.std.specs.Prelude.{◌≡◌, ℕ, ◌+◌, ◌*◌, ◌<◌, ◌≤◌, ◌^◌, false, List, length, Option, Some, None}
+use Rattle.std.specs.Prelude.{◌≡◌, ℕ, ◌+◌, ◌*◌, ◌≤◌, false, List, length, Option, Some, None}
 use Rattle.cell_base.specs.AttributeValue as one
 use Rattle.cell_base.specs.AttributeValue.{AttributeValue}
 use Rattle.cell_base.specs.Link.{Link}
 use Rattle.cell_base.specs.LinkText.{params_text}
+use Rattle.cell_base.specs.ScreenSize.{IsScreenSize}
 use Rattle.screen_change.specs.ChangeValue.{ChangeValue, Attribute, AllAttributes, Text, Title, is_text}
 use Rattle.escape_stream.specs.StreamAction.{StreamAction}
 use Rattle.escape_stream.specs.StreamText.{stream_text}
@@ -30,9 +31,9 @@ carried_size _ = 0
 -- beside those at most 320 bytes are sent for a change that is no text
 abbrev pub RenderingsAreShort : Type 0
 RenderingsAreShort =
-    (change : ChangeValue) (width height : ℕ) (actions : List StreamAction) → IsChange change → 0 < width
-    → width < 2 ^ 32 → 0 < height → height < 2 ^ 32 → is_text change ≡ false
-    → rendering change width height ≡ Some actions → length (stream_text actions) ≤ carried_size change + 320
+    (change : ChangeValue) (width height : ℕ) (actions : List StreamAction) → IsChange change
+    → IsScreenSize width height → is_text change ≡ false → rendering change width height ≡ Some actions
+    → length (stream_text actions) ≤ carried_size change + 320
 
 -- for a text at most twice its bytes, and one byte more than it has where it holds no C0 control or DEL
 abbrev pub TextsAreShort : Type 0

@@ -5,12 +5,12 @@ ghost use Rattle.screen_change.specs.ValueOf.{value_of as change_value};
 ghost use Rattle.escape_stream.specs.StreamText.{stream_text};
 ghost use Rattle.terminal_render.specs.Lists.{all_rendered};
 ghost use Rattle.terminal_render.specs.Rendering.{appended, edited, rendering, visibility_mode};
-ghost use Rattle.terminal_render.specs.ScreenSize.{IsScreenSize};
+ghost use Rattle.cell_base.specs.ScreenSize.{IsScreenSize};
 
 use crate::actions::Actions;
 use crate::pen::{push_attribute, push_clear, push_clear_screen, push_pen};
 use crate::positions::push_position;
-use crate::texts::push_text;
+use crate::texts::{push_text, push_title};
 use cell_base::CursorVisibility;
 use csi_codec::{DecPrivateMode, DecPrivateModeCode, Edit, EraseInDisplay, EraseInLine, Mode};
 use screen_change::Change;
@@ -49,7 +49,7 @@ fn visibility_mode(visibility: CursorVisibility) -> Mode
 }
 
 /// The encoding of a change that has one.
-#[tactic(auto, unfolding(crate::specs::Rendering::scroll_rendering, crate::specs::Texts::text_rendering, crate::specs::Texts::title_rendering))]
+#[tactic(auto, unfolding(crate::specs::Rendering::scroll_rendering, crate::specs::Texts::text_rendering))]
 pub(crate) fn push_change<'a>(
     actions: &mut Actions<'a>,
     change: &'a Change,
@@ -62,7 +62,7 @@ pub(crate) fn push_change<'a>(
 {
     match change {
         Change::Text(text) => push_text(actions, text.as_str()),
-        Change::Title(title) => actions.push_title(title.as_str()),
+        Change::Title(title) => push_title(actions, title.as_str()),
         Change::Attribute(change) => push_attribute(actions, change),
         Change::AllAttributes(pen) => push_pen(actions, pen),
         Change::ClearScreen(color) => push_clear_screen(actions, *color),

@@ -1,8 +1,9 @@
 //! Laws of which changes have an encoding: all that a terminal makes. Each is the contract of a function that does
 //! nothing.
-ghost use Rattle.std.specs.Prelude.{◌≡◌, ◌≢◌, ◌↔◌, ◌<◌, ◌^◌, ℕ, List, None, Some, IfSome, fold};
+ghost use Rattle.std.specs.Prelude.{◌≡◌, ◌≢◌, ◌↔◌, ℕ, List, None, Some, IfSome, fold};
 ghost use Rattle.cell_base.specs.Attributes.{Attributes};
 ghost use Rattle.cell_base.specs.Screen.{height};
+ghost use Rattle.cell_base.specs.ScreenSize.{IsScreenSize};
 ghost use Rattle.screen_change.specs.ChangeValue.{ChangeValue};
 ghost use Rattle.screen_log.specs.Log.{Log, due};
 ghost use Rattle.screen_log.specs.LogSteps.{Sized, step_of_kept};
@@ -103,8 +104,8 @@ pub fn spelled_changes_are_rendered()
 /// And what is sent for them to a terminal of some columns and rows, less than 2^32 of each, reads back from
 /// its bytes.
 pub fn spelled_changes_are_writable()
-    ensures { (width : ℕ) (height : ℕ) (changes : List ChangeValue) (actions : List StreamAction) → 0 < width
-        → width < 2 ^ 32 → 0 < height → height < 2 ^ 32 → HaveEncodings width height changes
+    ensures { (width : ℕ) (height : ℕ) (changes : List ChangeValue) (actions : List StreamAction)
+        → IsScreenSize width height → HaveEncodings width height changes
         → all_rendered changes width height ≡ Some actions → IsWritable actions }
 {
     renderings_are_writable();

@@ -7,8 +7,8 @@ ghost use Rattle.csi_codec.specs.declared.edits.Edit.TheVariants as edit;
 ghost use Rattle.csi_codec.specs.declared.edits.EraseInDisplay.TheVariants as display;
 ghost use Rattle.csi_codec.specs.declared.rendition.Sgr.TheVariants as sgr;
 ghost use Rattle.terminal_render.specs.Carried.{HasColor, HaveColors, IsColor};
-ghost use Rattle.terminal_render.specs.Pen.{attribute_action, clear_rendering, colour_setting, is_unsaid, plain_pen};
-ghost use Rattle.terminal_render.specs.Pen.{pen_actions, pen_rendering, pen_settings, settings};
+ghost use Rattle.terminal_render.specs.Pen.{attribute_action, clear_rendering, colour_setting, lacks_encoding};
+ghost use Rattle.terminal_render.specs.Pen.{pen_actions, pen_rendering, pen_settings, plain_pen, settings};
 ghost use Rattle.terminal_render.specs.Pen.{unless_base_line, unless_default, unless_none, unless_normal};
 ghost use Rattle.terminal_render.specs.Pen.{unless_steady};
 ghost use Rattle.terminal_render.specs.Rendering.{appended, edited, moved};
@@ -157,12 +157,12 @@ pub(crate) fn pen_has_encoding(a: &CellAttributes) -> bool
     ensures encoding { result ≡ is_some (pen_rendering a.now) }
     ensures bytes { IsTrue result → HaveColors a.now }
 {
-    !is_unsaid(a) && colors_have_encodings(a)
+    !lacks_encoding(a) && colors_have_encodings(a)
 }
 
 // Whether the attributes have what no action sets.
-fn is_unsaid(a: &CellAttributes) -> bool
-    ensures { result ≡ is_unsaid a.now }
+fn lacks_encoding(a: &CellAttributes) -> bool
+    ensures { result ≡ lacks_encoding a.now }
 {
     if a.wrapped() {
         return true;

@@ -6,7 +6,7 @@ ghost use Rattle.csi_codec.specs.declared.cursors.Cursor.TheVariants as cursor;
 ghost use Rattle.terminal_render.specs.Positions.{At, On, move_by, moves, position_moves, way_of};
 ghost use Rattle.terminal_render.specs.PositionsView.{IsCounted, both_listed, listed, move_cursor, way_value};
 ghost use Rattle.terminal_render.specs.Rendering.{appended, moved};
-ghost use Rattle.terminal_render.specs.ScreenSize.{IsScreenSize};
+ghost use Rattle.cell_base.specs.ScreenSize.{IsScreenSize};
 
 use crate::actions::Actions;
 use crate::coordinate::Coordinate;

@@ -5,7 +5,8 @@ ghost use Rattle.escape_stream.specs.StreamActionView.{value_of};
 ghost use Rattle.escape_stream.specs.StreamWritable.{IsWritable};
 ghost use Rattle.terminal_render.specs.Carried.{IsChange};
 ghost use Rattle.terminal_render.specs.Rendering.{is_whole, rendering};
-ghost use Rattle.terminal_render.specs.ScreenSize.{IsScreenSize};
+ghost use Rattle.terminal_render.specs.Texts.{text_rendering, title_rendering};
+ghost use Rattle.cell_base.specs.ScreenSize.{IsScreenSize};
 
 use crate::actions::Actions;
 use crate::encoding::push_change;
@@ -18,6 +19,22 @@ use screen_change::Change;
 use std::alloc::Global;
 use text_clusters::holds_c1;
 
+// Whether a text has an encoding: it holds no C1 control.
+#[tactic(auto, unfolding(crate::specs::Texts::text_rendering))]
+fn text_has_encoding(text: &str) -> bool
+    ensures { result ≡ is_some (text_rendering text.now) }
+{
+    !holds_c1(text.as_bytes())
+}
+
+// Whether a title has an encoding: it holds no control.
+#[tactic(auto, unfolding(crate::specs::Texts::title_rendering))]
+fn title_has_encoding(title: &str) -> bool
+    ensures { result ≡ is_some (title_rendering title.now) }
+{
+    is_plain_text(title)
+}
+
 // Whether a region is of all rows, as far as there are rows.
 fn is_whole(height: usize, first_row: usize, region_size: usize) -> bool
     ensures { result ≡ is_whole height first_row region_size }
@@ -27,15 +44,15 @@ fn is_whole(height: usize, first_row: usize, region_size: usize) -> bool
 
 /// Whether a change has an encoding: whether anything can be sent to a terminal of `width` columns and `height` rows
 /// that does to its screen what the change does.
-#[tactic(auto, unfolding(crate::specs::Pen::clear_rendering, crate::specs::Rendering::scroll_rendering, crate::specs::Texts::text_rendering, crate::specs::Texts::title_rendering))]
+#[tactic(auto, unfolding(crate::specs::Pen::clear_rendering, crate::specs::Rendering::scroll_rendering))]
 pub fn has_encoding(change: &Change, width: usize, height: usize) -> bool
     ensures encoding { result ≡ is_some (rendering (change_value change.now) width height) }
     // (colours are of bytes, and texts are UTF-8)
     ensures change { IsTrue result → IsChange (change_value change.now) }
 {
     match change {
-        Change::Text(text) => !holds_c1(text.as_str().as_bytes()),
-        Change::Title(title) => is_plain_text(title.as_str()),
+        Change::Text(text) => text_has_encoding(text.as_str()),
+        Change::Title(title) => title_has_encoding(title.as_str()),
         Change::Attribute(change) => attribute_has_encoding(change),
         Change::AllAttributes(pen) => pen_has_encoding(pen),
         Change::ClearScreen(color)

@@ -1,5 +1,6 @@
 //! Laws of how many bytes encode changes at most. Each is the contract of a function that does nothing.
-ghost use Rattle.std.specs.Prelude.{◌≡◌, ◌<◌, ◌≤◌, ◌^◌, ℕ, List, Some, length};
+ghost use Rattle.std.specs.Prelude.{◌≡◌, ◌≤◌, ℕ, List, Some, length};
+ghost use Rattle.cell_base.specs.ScreenSize.{IsScreenSize};
 ghost use Rattle.screen_change.specs.ChangeValue.{ChangeValue};
 ghost use Rattle.escape_stream.specs.StreamAction.{StreamAction};
 ghost use Rattle.escape_stream.specs.StreamText.{stream_text};
@@ -13,8 +14,8 @@ use crate::laws::renderings_are_short;
 /// beside a title or a link, for a text twice its bytes, and one more than it has where it holds no C0
 /// control or DEL.
 pub fn encoded_lists_are_short()
-    ensures { (width : ℕ) (height : ℕ) (changes : List ChangeValue) (actions : List StreamAction) → 0 < width
-        → width < 2 ^ 32 → 0 < height → height < 2 ^ 32 → HaveEncodings width height changes
+    ensures { (width : ℕ) (height : ℕ) (changes : List ChangeValue) (actions : List StreamAction)
+        → IsScreenSize width height → HaveEncodings width height changes
         → all_rendered changes width height ≡ Some actions → length (stream_text actions) ≤ all_encoded_size changes }
 {
     renderings_are_short();
@@ -22,8 +23,8 @@ pub fn encoded_lists_are_short()
 
 /// And no more than 320 bytes are sent for each, beside its text, its title, or its link's parameters and URI.
 pub fn encoded_changes_are_short()
-    ensures { (width : ℕ) (height : ℕ) (changes : List ChangeValue) → 0 < width → width < 2 ^ 32 → 0 < height
-        → height < 2 ^ 32 → HaveEncodings width height changes → AreShort width height changes }
+    ensures { (width : ℕ) (height : ℕ) (changes : List ChangeValue) → IsScreenSize width height
+        → HaveEncodings width height changes → AreShort width height changes }
 {
     renderings_are_short();
 }

@@ -1,9 +1,10 @@
 //! Texts, cut at their controls.
-ghost use Rattle.std.specs.Prelude.{◌≡◌, ◌++◌, OnOk};
+ghost use Rattle.std.specs.Prelude.{◌≡◌, ◌≢◌, ◌++◌, None, OnOk, Some};
 ghost use Rattle.std.specs.List.{flat_map};
 ghost use Rattle.screen_effects.specs.Parts.{plain_part};
 ghost use Rattle.screen_effects.specs.Strokes.{Control, text_parts};
-ghost use Rattle.terminal_render.specs.Texts.{part_actions};
+ghost use Rattle.terminal_render.specs.Rendering.{appended};
+ghost use Rattle.terminal_render.specs.Texts.{part_actions, title_rendering};
 
 use crate::actions::Actions;
 use escape_stream::ControlCode;
@@ -44,4 +45,13 @@ pub(crate) fn push_text<'a>(actions: &mut Actions<'a>, text: &'a str) -> Result<
         rest = remaining;
     }
     Ok(())
+}
+
+/// A title that has an encoding.
+#[tactic(auto, unfolding(crate::specs::Texts::title_rendering))]
+pub(crate) fn push_title<'a>(actions: &mut Actions<'a>, title: &'a str) -> Result<(), AllocError>
+    requires { title_rendering title.now ≢ None }
+    ensures { OnOk result (appended actions.old (title_rendering title.now) ≡ Some actions.new) }
+{
+    actions.push_title(title)
 }

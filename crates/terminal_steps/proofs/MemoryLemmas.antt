@@ -8,11 +8,12 @@ use Rattle.cell_surface.specs.declared.error.SurfaceError.TheVariants as refusal
 use Rattle.screen_log.specs.LogSteps.{LogStep, Logged, Sized, step_of_kept}
 use Rattle.escape_stream.specs.Items.{Item, Text, Single, item_of, items, items_of}
 use Rattle.escape_stream.specs.Pieces.{Piece}
-use Rattle.escape_stream.specs.PiecesView.{BytesTakeMemory, PerformsUpToMemory, TakesMemoryBefore}
+use Rattle.escape_stream.specs.PiecesView.{BytesTakeMemory, PerformsUpToMemory}
 use Rattle.escape_stream.specs.Performing.{StopsAt, HaltsAt}
 use Rattle.escape_stream.specs.StreamAction.{StreamAction, is_print, printed}
 use Rattle.escape_stream.specs.declared.perform.Halted.{Halted}
 use Rattle.escape_stream.specs.declared.perform.Halted.TheVariants as halted
+use Rattle.escape_stream.proofs.StepLemmas.{takes_some}
 use Rattle.terminal_table.specs.Changes.{changes_of, run_change}
 use Rattle.terminal_table.specs.Functions.{ControlFunction, function_of}
 use Rattle.terminal_table.specs.History.{Act}
@@ -64,11 +65,7 @@ quiet_items f v log items failed none all some =
 
 -- where the parser is refused memory, the bytes take some
 pub bytes_take : (f : List ℕ → ℕ) (view : View) (log : Sized) (stream bytes : List ℕ) → ParserNeedsMemory f view log stream bytes → BytesTakeMemory stream bytes
-bytes_take f view log stream bytes n = by_case n.takes
-  where
-    by_case : TakesMemoryBefore stream bytes n.left → BytesTakeMemory stream bytes
-    by_case (inl (k, within, body, left)) = inl (k, within, body)
-    by_case (inr first) = inr (record { done = n.done; left = n.left; whole = n.whole; takes = first })
+bytes_take f view log stream bytes n = takes_some stream bytes n.done n.left n.whole n.takes
 
 module _ {W : Type 0} (width_of : W → List ℕ → ℕ) where
   abbrev of : TerminalState W → List ℕ → ℕ

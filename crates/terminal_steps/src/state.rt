@@ -1,5 +1,6 @@
 //! What a terminal keeps beside its parser, and what events make of it.
 ghost use Rattle.std.specs.Prelude.{◌≡◌, ◌<◌, ◌+◌, ◌^◌, true, false, IsOk, IfOk, OnOk, IsErrOf, None, [], ◌∷◌};
+ghost use Rattle.cell_base.specs.ScreenSize.{IsScreenSize};
 ghost use Rattle.escape_stream.specs.StreamAction.{is_print};
 ghost use Rattle.escape_stream.specs.StreamActionView.{value_of};
 ghost use Rattle.cell_surface.specs.Surface.{number_of, shown_by};
@@ -39,8 +40,7 @@ impl<W: Widths + Drop> TerminalState<W> {
         height: usize,
         widths: W,
     ) -> Result<TerminalState<W>, AllocError>
-        requires width { (0 < width) × (width < 2 ^ 32) }
-        requires height { (0 < height) × (height < 2 ^ 32) }
+        requires size { IsScreenSize width height }
         ensures view { IfOk result (λ t. view_of t ≡ new_view width height) }
         ensures shape { IfOk result (λ t. (shown_by (surface_in t)).shape ≡ None) }
         ensures log { IfOk result (λ t. (surface_in t).log.log ≡ new_log) }
@@ -101,8 +101,7 @@ impl<W: Widths + Drop> TerminalState<W> {
     /// Becomes `width` columns wide and `height` rows high, each from 1 to 2^32 - 1. The run ends before; a saved
     /// cursor stays as it is. Refuses as the surface does.
     pub fn resize(&mut self, width: usize, height: usize) -> Result<(), SurfaceError>
-        requires width { (0 < width) × (width < 2 ^ 32) }
-        requires height { (0 < height) × (height < 2 ^ 32) }
+        requires size { IsScreenSize width height }
         ensures done { OnOk result (Does (λ w. W.width_of w) self.old self.new (Resized width height ∷ [])) }
         ensures failed { IsErrOf result SurfaceError.Failed → IsReady self.old → ⊥ }
         ensures numbers { IsErrOf result SurfaceError.Number

@@ -43,7 +43,7 @@ pub steps_are_sizes : (history : History) → AreSteps history → AreSizes hist
 steps_are_sizes [] h = tt
 steps_are_sizes (Piece bytes ∷ history) h = steps_are_sizes history h.1
 steps_are_sizes (Look ∷ history) h = steps_are_sizes history h.1
-steps_are_sizes (Resize width tall ∷ history) h = (h.0.0.0, h.0.1.0, steps_are_sizes history h.1)
+steps_are_sizes (Resize width tall ∷ history) h = (h.0.columns.0, h.0.rows.0, steps_are_sizes history h.1)
 steps_are_sizes (Forget number ∷ history) h = steps_are_sizes history h.1
 
 pub sizes_are_steps : (history : History) → AreSteps history → AreSteps (sizes history)
@@ -87,7 +87,7 @@ repeated_small [] screen h k = k
 repeated_small (Piece bytes ∷ history) screen h k = repeated_small history screen h.1 k
 repeated_small (Look ∷ history) screen h k = repeated_small history screen h.1 k
 repeated_small (Resize width tall ∷ history) screen h k =
-    repeated_small history (resized_screen width tall screen) h.1 (record { wide = h.0.0.1; tall = subst (λ n. n < 2 ^ 32) (sym (resized_height width tall screen)) h.0.1.1 })
+    repeated_small history (resized_screen width tall screen) h.1 (record { wide = h.0.columns.1; tall = subst (λ n. n < 2 ^ 32) (sym (resized_height width tall screen)) h.0.rows.1 })
 repeated_small (Forget number ∷ history) screen h k = repeated_small history screen h.1 k
 
 -- ---- one that answers goes on

@@ -4,6 +4,7 @@ use Rattle.std.specs.Prelude.{◌==◌, if◌then◌else◌}
 use Rattle.std.proofs.lemmas.List.{length-replicate}
 use Rattle.cell_base.specs.Row.{space, plain_row}
 use Rattle.cell_base.specs.Screen.{Screen, height}
+use Rattle.cell_base.specs.ScreenSize.{IsScreenSize}
 use Rattle.screen_log.specs.LogSteps.{Sized}
 use Rattle.escape_framing.specs.Held.{hand_out, held_of, nothing_held}
 use Rattle.terminal_render.specs.Effects.{IsReady}
@@ -138,24 +139,24 @@ module _ (cut : AllCut) (shown : UpdatesAreShown) (idles : UpdatesLeaveIdle) (wi
   unfolding hand_out
   idle_stream = refl
 
-  new_reads : (width height : ℕ) → 0 < width → width < 2 ^ 32 → 0 < height → height < 2 ^ 32 → Reads (new_view width height)
-  new_reads width height w wide t tall = record {
-    ready = record { lawful = new_is width height w t; width = wide; height = subst (λ n. n < 2 ^ 32) (sym (length-replicate height (plain_row width))) tall; run = refl };
+  new_reads : (width height : ℕ) → IsScreenSize width height → Reads (new_view width height)
+  new_reads width height size = record {
+    ready = record { lawful = new_is width height size.columns.0 size.rows.0; width = size.columns.1; height = subst (λ n. n < 2 ^ 32) (sym (length-replicate height (plain_row width))) size.rows.1; run = refl };
     idle = record { run = refl; stream = idle_stream };
   }
 
-  input_read : PiecesJoin → (width height every : ℕ) (input : List ℕ) → 0 < width → width < 2 ^ 32 → 0 < height → height < 2 ^ 32
+  input_read : PiecesJoin → (width height every : ℕ) (input : List ℕ) → IsScreenSize width height
       → HasRead (after width_of (new_view width height) (Piece (updates width_of width height every input) ∷ [])) (updated width_of width height every input).state.screen
-  input_read joins width height every input w wide t tall =
+  input_read joins width height every input size =
       let s = new_standing width height in
       let p = some_chunk every [] input in
       subst (λ chunks. HasRead (after width_of (new_view width height) (Piece (updates_after width_of s 0 chunks) ∷ [])) (after width_of (new_view width height) (looks chunks)).state.screen) (sym p.2)
-      (all_shown joins p.0 p.1 s 0 (new_view width height) (new_stands width height w t) (new_reads width height w wide t tall) (omega arith) (record { wide = refl; tall = refl; leads = tt }))
+      (all_shown joins p.0 p.1 s 0 (new_view width height) (new_stands width height size.columns.0 size.rows.0) (new_reads width height size) (omega arith) (record { wide = refl; tall = refl; leads = tt }))
 
-  pub input_is_shown : PiecesJoin → (width height every : ℕ) (input : List ℕ) → 0 < width → width < 2 ^ 32 → 0 < height → height < 2 ^ 32
+  pub input_is_shown : PiecesJoin → (width height every : ℕ) (input : List ℕ) → IsScreenSize width height
       → (after width_of (new_view width height) (Piece (updates width_of width height every input) ∷ [])).state.screen ≡ (updated width_of width height every input).state.screen
-  input_is_shown joins width height every input w wide t tall = (input_read joins width height every input w wide t tall).screen_is
+  input_is_shown joins width height every input size = (input_read joins width height every input size).screen_is
 
-  pub input_leaves_idle : PiecesJoin → (width height every : ℕ) (input : List ℕ) → 0 < width → width < 2 ^ 32 → 0 < height → height < 2 ^ 32
+  pub input_leaves_idle : PiecesJoin → (width height every : ℕ) (input : List ℕ) → IsScreenSize width height
       → IsIdle (after width_of (new_view width height) (Piece (updates width_of width height every input) ∷ []))
-  input_leaves_idle joins width height every input w wide t tall = (input_read joins width height every input w wide t tall).reads.idle
+  input_leaves_idle joins width height every input size = (input_read joins width height every input size).reads.idle

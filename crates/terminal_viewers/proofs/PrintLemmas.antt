@@ -39,7 +39,7 @@ use Rattle.terminal_viewers.proofs.PatchSpellLemmas.{each_of_patch}
 use Rattle.terminal_render.specs.Effects.{IsReady, actions_done, with_change}
 use Rattle.terminal_render.specs.Links.{is_plain_text}
 use Rattle.terminal_render.specs.Lists.{all_rendered}
-use Rattle.terminal_render.specs.Pen.{is_unsaid, link_action, pen_actions, pen_rendering, pen_settings, set}
+use Rattle.terminal_render.specs.Pen.{lacks_encoding, link_action, pen_actions, pen_rendering, pen_settings, set}
 use Rattle.terminal_render.specs.Positions.{moves, position_moves}
 use Rattle.terminal_render.specs.Rendering.{moved, rendering}
 use Rattle.terminal_render.specs.Texts.{part_actions, run_actions, text_rendering, title_rendering}
@@ -91,7 +91,7 @@ link_quiet link = record { separate = refl; rows = λ state. refl; still = λ st
 
 pen_quiet : (a : Attributes) → IfQuiet (pen_rendering a)
 unfolding pen_rendering
-pen_quiet a = choose (is_unsaid a)
+pen_quiet a = choose (lacks_encoding a)
   where
     set_all : (found : Option (List (Option Sgr))) → IfQuiet (option_map (λ values. pen_actions values a.hyperlink) found)
     set_all None = tt

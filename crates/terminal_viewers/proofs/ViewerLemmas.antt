@@ -3,6 +3,7 @@ use Rattle.std.proofs.Common.{◌≡◌, ◌≢◌, ℕ, ◌<◌, ◌^◌, List,
 use Rattle.std.specs.Prelude.{Option, Some, None, IfSome}
 use Rattle.cell_base.specs.Row.{space}
 use Rattle.cell_base.specs.Screen.{Screen, height}
+use Rattle.cell_base.specs.ScreenSize.{IsScreenSize}
 use Rattle.screen_change.specs.ChangeValue.{ChangeValue}
 use Rattle.screen_log.specs.Log.{due}
 use Rattle.screen_log.specs.LogSteps.{Sized}
@@ -38,7 +39,7 @@ UpdatesHaveEncodings = (screen : Screen) (log : Sized) (number : ℕ) → IsDisp
 
 -- what is sent for such changes reads back
 abbrev pub SpelledChangesAreWritable : Type 0
-SpelledChangesAreWritable = (width height : ℕ) (changes : List ChangeValue) (actions : List StreamAction) → 0 < width → width < 2 ^ 32 → 0 < height → height < 2 ^ 32 → HaveEncodings width height changes
+SpelledChangesAreWritable = (width height : ℕ) (changes : List ChangeValue) (actions : List StreamAction) → IsScreenSize width height → HaveEncodings width height changes
     → all_rendered changes width height ≡ Some actions → IsWritable actions
 
 -- ---- changes that lead to a screen
@@ -80,8 +81,9 @@ module _ (writes : SpelledChangesAreWritable) (width_of : List ℕ → ℕ) (vie
         actions = found.0;
         rendered = (λ i. all_rendered changes (can.wide i) (can.tall i)) ∙ found.1;
         bytes = ap bytes_of found.1;
-        writable = writes screen.width (height screen) changes found.0 can.display.lawful.wide_enough (subst (λ n. n < 2 ^ 32) can.wide can.ready.width)
-            (some_row screen can.display) (subst (λ n. n < 2 ^ 32) can.tall can.ready.height) can.spelled found.1;
+        writable = writes screen.width (height screen) changes found.0
+            (record { columns = (can.display.lawful.wide_enough, subst (λ n. n < 2 ^ 32) can.wide can.ready.width); rows = (some_row screen can.display, subst (λ n. n < 2 ^ 32) can.tall can.ready.height) })
+            can.spelled found.1;
       }
 
   pub changes_are_shown : ListTextsHaveTheEffect → (after width_of viewer (Piece (bytes_for screen changes) ∷ [])).state ≡ record viewer.state { screen = screen }

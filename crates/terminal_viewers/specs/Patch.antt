@@ -1,4 +1,4 @@
--- What a viewer is sent that shows another screen of the same size.
+-- The bytes that bring a viewer up to date that shows another screen of the same size.
 use Rattle.std.specs.Prelude.{ℕ, ◌==◌, List, [], ◌∷◌, ◌++◌, Option, Some, None, if◌then◌else◌}
 use Rattle.cell_base.specs.declared.attributes.Position.TheVariants.{Absolute}
 use Rattle.cell_base.specs.Screen.{Screen, height}

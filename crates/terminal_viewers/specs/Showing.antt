@@ -2,6 +2,7 @@
 use Rattle.std.specs.Prelude.{◌≡◌, ℕ, zero, suc, ◌<◌, ◌≤◌, ◌^◌, ⊤, All, List, [], ◌∷◌, ◌++◌, length, take}
 use Rattle.cell_base.specs.Row.{space}
 use Rattle.cell_base.specs.Screen.{Screen, height}
+use Rattle.cell_base.specs.ScreenSize.{IsScreenSize}
 use Rattle.screen_effects.specs.WrittenCells.{IsSoundDisplay}
 use Rattle.terminal_viewers.specs.Sessions.{Answer, Turn, Goes, Answers, Forgets, Viewer, Chain, new_chain, round}
 use Rattle.terminal_viewers.specs.Sessions.{session, steps_of, with_taken}
@@ -26,7 +27,7 @@ pub record CanAnswer (width_of : List ℕ → ℕ) (s : Standing) : Type 0 where
 abbrev pub IsStep : Step → Type 0
 IsStep (Piece bytes) = ⊤
 IsStep Look = ⊤
-IsStep (Resize width height) = ((0 < width) × (width < 2 ^ 32)) × ((0 < height) × (height < 2 ^ 32))
+IsStep (Resize width height) = IsScreenSize width height
 IsStep (Forget number) = ⊤
 
 abbrev pub IsTurn : Turn → Type 0

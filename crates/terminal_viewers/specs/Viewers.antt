@@ -1,7 +1,8 @@
 -- What the laws of viewers say.
-use Rattle.std.specs.Prelude.{◌≡◌, ℕ, ◌<◌, ◌≤◌, ◌^◌, ⊤, List, [], ◌∷◌, length}
+use Rattle.std.specs.Prelude.{◌≡◌, ℕ, ◌≤◌, ⊤, List, [], ◌∷◌, length}
 use Rattle.cell_base.specs.Row.{space}
 use Rattle.cell_base.specs.Screen.{Screen, height}
+use Rattle.cell_base.specs.ScreenSize.{IsScreenSize}
 use Rattle.screen_log.specs.Log.{due}
 use Rattle.screen_log.specs.LogSteps.{Sized}
 use Rattle.screen_effects.specs.Display.{IsDisplay}
@@ -97,16 +98,16 @@ UpdatesLeaveIdle =
 -- a new viewer that is fed the updates of an input shows in the end what the terminal shows
 abbrev pub UpdatesShowTheInput : Type 0
 UpdatesShowTheInput =
-    (width_of : List ℕ → ℕ) (width height every : ℕ) (input : List ℕ) → width_of space ≡ 1 → 0 < width → width < 2 ^ 32
-    → 0 < height → height < 2 ^ 32
+    (width_of : List ℕ → ℕ) (width height every : ℕ) (input : List ℕ) → width_of space ≡ 1
+    → IsScreenSize width height
     → (after width_of (new_view width height) (Piece (updates width_of width height every input) ∷ [])).state.screen
     ≡ (updated width_of width height every input).state.screen
 
 -- and it is idle then
 abbrev pub UpdatesLeaveNewViewersIdle : Type 0
 UpdatesLeaveNewViewersIdle =
-    (width_of : List ℕ → ℕ) (width height every : ℕ) (input : List ℕ) → width_of space ≡ 1 → 0 < width → width < 2 ^ 32
-    → 0 < height → height < 2 ^ 32
+    (width_of : List ℕ → ℕ) (width height every : ℕ) (input : List ℕ) → width_of space ≡ 1
+    → IsScreenSize width height
     → IsIdle (after width_of (new_view width height) (Piece (updates width_of width height every input) ∷ []))
 
 -- ---- standings that answer alike

@@ -1,10 +1,11 @@
 //! The update: the bytes of the changes that are due, or of the whole screen. Only `terminal` and `patch` call this
 //! module: it requires a surface each change of which has an encoding, and only a terminal's is known to be one.
-ghost use Rattle.std.specs.Prelude.{◌≡◌, ◌<◌, ◌^◌, ◌++◌, false, length, map, take, IfOk, OnErr, OnOk};
+ghost use Rattle.std.specs.Prelude.{◌≡◌, ◌++◌, false, length, map, take, IfOk, OnErr, OnOk};
 ghost use Rattle.std.specs.List.{flat_map};
 ghost use Rattle.std.specs.Option.{option_map};
 ghost use Rattle.cell_base.specs.declared.attributes.Position.TheVariants as position;
 ghost use Rattle.cell_base.specs.Screen.{height};
+ghost use Rattle.cell_base.specs.ScreenSize.{IsScreenSize};
 ghost use Rattle.screen_change.specs.ChangeValue.{AllAttributes, CursorPosition, Text, Title};
 ghost use Rattle.screen_change.specs.ValueOf.{value_of};
 ghost use Rattle.cell_views.specs.CellRefView.{shown_by as cell_shown};
@@ -67,10 +68,7 @@ pub struct ViewerEncoder {
     pub width: usize,
     /// The rows, from 1 to 2^32 - 1.
     pub height: usize,
-    ghost columns: { 0 < width },
-    ghost width_fits: { width < 2 ^ 32 },
-    ghost rows: { 0 < height },
-    ghost height_fits: { height < 2 ^ 32 },
+    ghost size: { IsScreenSize width height },
 }
 
 impl ViewerEncoder {

@@ -1,5 +1,5 @@
 //! Screens of one row in each format.
-ghost use Rattle.std.specs.Prelude.{◌<◌, ◌^◌};
+ghost use Rattle.cell_base.specs.ScreenSize.{IsScreenSize};
 
 use cell_base::{
     AnsiColor, Blink, CellAttributes, Hyperlink, Intensity, ProgramWidth, Underline, VerticalAlign,
@@ -47,7 +47,7 @@ fn row_of<R: Abort + AllocGlobal>(
     attrs: CellAttributes,
     text: &str,
 ) -> Surface<ProgramWidth>
-    requires { (0 < width) × (width < 2 ^ 32) }
+    requires { IsScreenSize width 1 }
 {
     let mut surface = Surface::new(rt.alloc(), width, 1, ProgramWidth).expect(rt, "memory");
     add(rt, &mut surface, Change::AllAttributes(attrs));

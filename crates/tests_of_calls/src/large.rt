@@ -1,5 +1,5 @@
 //! Large inputs of a terminal: chunks of 5 KB and 1 MB in one call, a held run, a command, replies and a list as long.
-ghost use Rattle.std.specs.Prelude.{◌<◌, ◌^◌};
+ghost use Rattle.cell_base.specs.ScreenSize.{IsScreenSize};
 
 use cell_base::Intensity;
 use std::process::Abort;
@@ -19,8 +19,7 @@ pub fn times<R: Abort + AllocGlobal>(rt: &R, text: &[u8], count: usize) -> Vec<u
 
 /// A terminal that was fed bytes in one chunk.
 pub fn fed<R: Abort + AllocGlobal>(rt: &R, width: usize, height: usize, bytes: &[u8]) -> Plain
-    requires width { (0 < width) × (width < 2 ^ 32) }
-    requires height { (0 < height) × (height < 2 ^ 32) }
+    requires size { IsScreenSize width height }
 {
     let mut terminal = Terminal::new(rt.alloc(), width, height, ProgramWidth).expect(rt, "memory");
     assert!(rt; terminal.feed(bytes).is_ok());
@@ -29,8 +28,7 @@ pub fn fed<R: Abort + AllocGlobal>(rt: &R, width: usize, height: usize, bytes: &
 
 // A terminal that was fed bytes in chunks of 4,096.
 fn fed_in_chunks<R: Abort + AllocGlobal>(rt: &R, width: usize, height: usize, bytes: &[u8]) -> Plain
-    requires width { (0 < width) × (width < 2 ^ 32) }
-    requires height { (0 < height) × (height < 2 ^ 32) }
+    requires size { IsScreenSize width height }
 {
     let mut terminal = Terminal::new(rt.alloc(), width, height, ProgramWidth).expect(rt, "memory");
     for chunk in bytes.chunks(4096) {

@@ -40,3 +40,5 @@ c1_found text (suc i) above below same =
 
 pub c1_end : (text : List ℕ) (i : ℕ) → length text ≤ i → holds_c1 (drop (i - 1) text) ≡ false
 c1_end text i h = holds_c1-short (drop (i - 1) text) (omega (arith, length-drop (i - 1) text))
+
+pub ruleset c1_steps = (c1_next, c1_found, c1_end)

@@ -52,7 +52,7 @@ pub fn is_c1(lead: u8, next: u8) -> bool
 }
 
 /// Whether the bytes contain a C1 control in UTF-8; they needn't be UTF-8 as a whole.
-#[tactic(auto, using(crate::proofs::ControlLemmas::c1_next, crate::proofs::ControlLemmas::c1_found, crate::proofs::ControlLemmas::c1_end))]
+#[tactic(auto, using(crate::proofs::ControlLemmas::c1_steps))]
 pub fn holds_c1(bytes: &[u8]) -> bool
     ensures { result ≡ holds_c1 bytes.now }
 {

@@ -1,6 +1,8 @@
-use Rattle.std.proofs.Common.{Result, Ok, Err, OnOk, OnErr}
+use Rattle.std.proofs.Common.{Result, Ok, Err, OnOk, OnErr, refl}
 use Rattle.std.proofs.lemmas.Result.{err_from_is_err_and}
 use Rattle.terminal_viewers.specs.Updates.{new_standing}
+use Rattle.terminal.specs.Refusals.{all_looks}
+use Rattle.terminal.proofs.ReadAllLemmas.{nothing_read, refused_new}
 use Rattle.terminal.proofs.SendLemmas.{new_all, new_chunks, new_part, new_past, nothing_written}
 use Rattle.terminal.proofs.updates.run.Goals as goal
 
@@ -32,3 +34,13 @@ returns-clause-chunks g c = λ e. new_chunks (λ w. g.W.Widths.width_of w) c.arg
 pub returns-clause-err : goal.returns-clause-err
 returns-clause-err g c = if_err c.write_updates.result _ _ (new_part (λ w. g.W.Widths.width_of w) c.args.widths c.args.every c.in_ok-terminal.terminal c.args.width c.args.height (g.R.Read.remaining c.args.reader.now.inner) (g.R.Read.remaining c.write_updates.new.reader.inner) (g.T.Write.contents c.args.writer.now.inner) (g.T.Write.contents c.write_updates.new.writer.inner)
     (record { stands = c.in_ok-terminal.ensures.stands; log = c.in_ok-terminal.ensures.log }) c.in_ok-terminal.ensures.widths) c.write_updates.ensures.err
+
+pub returns-in_err-terminal-clause-memory : goal.returns-in_err-terminal-clause-memory
+returns-in_err-terminal-clause-memory g c = λ e.
+    nothing_read (g.W.Widths.width_of c.args.widths) c.args.width c.args.height (all_looks c.args.every) (g.R.Read.remaining c.args.reader.now.inner) refl
+
+pub returns-clause-memory : goal.returns-clause-memory
+returns-clause-memory g c = λ e.
+    refused_new (λ w. g.W.Widths.width_of w) c.args.widths c.args.width c.args.height c.in_ok-terminal.terminal
+    (record { stands = c.in_ok-terminal.ensures.stands; log = c.in_ok-terminal.ensures.log }) c.in_ok-terminal.ensures.widths
+    (all_looks c.args.every) (g.R.Read.remaining c.args.reader.now.inner) (g.R.Read.remaining c.write_updates.new.reader.inner) (c.write_updates.ensures.memory e)

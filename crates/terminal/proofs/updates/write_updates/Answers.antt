@@ -2,17 +2,17 @@ use Rattle.std.proofs.Common.{Result, Err, ◌≡◌, ◌+◌, ◌-◌, ◌<◌,
 use Rattle.std.specs.Io.KnownBytes.{Consumes}
 use Rattle.std.proofs.lemmas.Result.{err_from_is_err_and}
 use Rattle.terminal_steps.specs.declared.error.TerminalError.{TerminalError}
-use Rattle.terminal_steps.specs.declared.error.TerminalError.TheVariants.{Number}
+use Rattle.terminal_steps.specs.declared.error.TerminalError.TheVariants.{Memory, Number}
 use Rattle.terminal.specs.declared.error.RunError.{RunError}
 use Rattle.terminal.specs.declared.error.RunError.TheVariants.{Terminal}
 use Rattle.terminal.specs.Headline.{GoesBy}
-use Rattle.terminal.specs.Refusals.{NeedsNumber}
+use Rattle.terminal.specs.Refusals.{NeedsMemory, NeedsNumber}
 use Rattle.terminal.specs.Terminal.{Terminal as Value}
 use Rattle.terminal.specs.Watched.{Watched}
 use Rattle.terminal_table.specs.History.{Piece}
 use Rattle.terminal.proofs.AppendLemmas.{keeps_same, no_fault, not_gone_on}
 use Rattle.terminal.proofs.FlushLemmas.{none_flushed, flushes_more, flushes_next, flushes_all}
-use Rattle.terminal.proofs.SendLemmas.{SendsOn, none_read, on_chunks, on_first, on_lighter, on_more, on_next, on_all, on_part, on_some, on_last, on_feed_past, on_look_past, on_end_past}
+use Rattle.terminal.proofs.SendLemmas.{SendsOn, none_read, on_chunks, on_first, on_lighter, on_more, on_next, on_all, on_part, on_some, on_last, on_feed_past, on_look_past, on_end_past, on_feed_memory, on_look_memory, on_end_memory}
 use Rattle.terminal.proofs.updates.write_updates.Goals as goal
 use Rattle.terminal.proofs.updates.write_updates.Goals.{then-left-eq0+in_ok-number, else-left-eq0}
 
@@ -167,3 +167,32 @@ loop-preserved g c =
                 (ap (λ (x : Watched g.row.T.Denot). x.flushes) w.writer-is) w.left-is;
           }
     ]
+
+pub returns-in_err-feed-clause-memory : goal.returns-in_err-feed-clause-memory
+returns-in_err-feed-clause-memory g c =
+    let p = err_from_is_err_and c.from_residual-in_err-feed.result c.from_residual-in_err-feed.ensures.1 in
+    let within = c.in-Ok.ensures.bound in
+    let most : length (take c.in-Ok.count c.read.new.buffer) ≤ 4096 = omega (arith, within, c.read.auto.buffer, c.loop.invariant.room, length-take c.min-most.result c.loop.buffer, length-take c.in-Ok.count c.read.new.buffer) in
+    rw (p.1, p.2) (λ e.
+    let refused : ◌≡◌ {A = Result (Unit {0}) TerminalError} (Err c.in_err-feed.field-0.0) (Err Memory) = cc in
+    on_feed_memory (λ w. g.W.Widths.width_of w) c.args.every c.args.terminal.now (g.T.Write.contents c.args.writer.now.inner) (g.T.Write.contents c.loop.writer.inner) c.loop.terminal c.loop.number c.loop.left c.loop.invariant.widths (g.R.Read.remaining c.args.reader.now.inner) (g.R.Read.remaining c.loop.reader.inner) (g.R.Read.remaining c.read.new.self.inner) (take c.in-Ok.count c.read.new.buffer) c.feed.new.self c.loop.invariant.sends c.in-Ok.ensures.bytes.0 most
+    (subst (λ bytes. NeedsMemory (λ w. g.W.Widths.width_of w) c.loop.terminal bytes c.feed.new.self) (prefix c.in-Ok.count c.read.new.buffer (drop c.min-most.result c.loop.buffer) (omega (arith, within))) (c.in_err-feed.ensures.memory refused)))
+
+pub returns-in_err-number-clause-memory : goal.returns-in_err-number-clause-memory
+returns-in_err-number-clause-memory g c =
+    let p = err_from_is_err_and c.from_residual-in_err-number.result c.from_residual-in_err-number.ensures.1 in
+    let within = c.in-Ok.ensures.bound in
+    let full : length (take c.in-Ok.count c.read.new.buffer) ≡ c.loop.left = omega (arith, within, c.if-left-eq0.true, c.read.auto.buffer, c.min-most.ensures, length-take c.min-most.result c.loop.buffer, length-take c.in-Ok.count c.read.new.buffer) in
+    rw (p.1, p.2) (λ e.
+    let refused : ◌≡◌ {A = Result ℕ RunError} (Err c.in_err-number.field-0.0) (Err (Terminal Memory)) = cc in
+    on_look_memory (λ w. g.W.Widths.width_of w) c.args.every c.args.terminal.now (g.T.Write.contents c.args.writer.now.inner) (g.T.Write.contents c.loop.writer.inner) c.loop.terminal c.loop.number c.loop.left c.loop.invariant.widths (g.R.Read.remaining c.args.reader.now.inner) (g.R.Read.remaining c.loop.reader.inner) (g.R.Read.remaining c.read.new.self.inner) (take c.in-Ok.count c.read.new.buffer) c.feed.new.self c.loop.invariant.sends c.in-Ok.ensures.bytes.0
+    (subst (λ bytes. GoesBy (λ w. g.W.Widths.width_of w) c.loop.terminal c.feed.new.self (Piece bytes ∷ [])) (prefix c.in-Ok.count c.read.new.buffer (drop c.min-most.result c.loop.buffer) (omega (arith, within))) c.in_ok-feed.ensures.done)
+    full c.loop.invariant.some (c.in_err-number.ensures.memory refused))
+
+pub returns-in_err-write_update-clause-memory : goal.returns-in_err-write_update-clause-memory
+returns-in_err-write_update-clause-memory g c =
+    let p = err_from_is_err_and c.from_residual.result c.from_residual.ensures.1 in
+    rw (p.1, p.2) (λ e.
+    let refused : ◌≡◌ {A = Result ℕ RunError} (Err c.in_err-write_update.field-0.0) (Err (Terminal Memory)) = cc in
+    on_end_memory (λ w. g.W.Widths.width_of w) c.args.every c.args.terminal.now (g.T.Write.contents c.args.writer.now.inner) (g.T.Write.contents c.loop.writer.inner) c.loop.terminal c.loop.number c.loop.left c.loop.invariant.widths (g.R.Read.remaining c.args.reader.now.inner) (g.R.Read.remaining c.loop.reader.inner) (g.R.Read.remaining c.read.new.self.inner) c.loop.invariant.sends
+    (subst (λ (n : ℕ). Consumes (g.R.Read.remaining c.loop.reader.inner) (g.R.Read.remaining c.read.new.self.inner) (take n c.read.new.buffer)) c.if-count-eq0.true c.in-Ok.ensures.bytes.0) (c.in_err-write_update.ensures.memory refused))

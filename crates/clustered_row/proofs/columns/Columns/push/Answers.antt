@@ -29,7 +29,7 @@ pub invariant_of-self-2 : goal.invariant_of-self-2
 invariant_of-self-2 c =
     let text = c.args.text.now in
     let sizes = c.args.sizes.now in
-    let n : c.args.count ≡ length (faces_of text sizes) = c.requires.count ∙ sym (length-cells text sizes c.requires.bytes) in
+    let n : c.args.count ≡ length (faces_of text sizes) = c.requires.count ∙ sym (length-cells text sizes c.requires.sizes.bytes) in
     let m = push_makes (faces c.self.inside.texts) (faces c.push_cells.new.self) c.self.inside.runs c.push.new.self c.self.invariant.even c.self.invariant.whole (faces_of text sizes) c.args.count c.args.attrs.now
     (c.in_ok-push_cells.ensures.done ∙ ap (λ fs. fs ++ faces_of text sizes) c.in_ok-reserve.ensures.faces) c.in_ok-push.ensures.done n (whole_cells text sizes c.args.count c.args.attrs.now n) in
     record { even = m.even; whole = m.whole }
@@ -38,7 +38,7 @@ pub returns-clause-done : goal.returns-clause-done
 returns-clause-done c =
     let text = c.args.text.now in
     let sizes = c.args.sizes.now in
-    let n : c.args.count ≡ length (faces_of text sizes) = c.requires.count ∙ sym (length-cells text sizes c.requires.bytes) in
+    let n : c.args.count ≡ length (faces_of text sizes) = c.requires.count ∙ sym (length-cells text sizes c.requires.sizes.bytes) in
     (push_makes (faces c.self.inside.texts) (faces c.push_cells.new.self) c.self.inside.runs c.push.new.self c.self.invariant.even c.self.invariant.whole (faces_of text sizes) c.args.count c.args.attrs.now
     (c.in_ok-push_cells.ensures.done ∙ ap (λ fs. fs ++ faces_of text sizes) c.in_ok-reserve.ensures.faces) c.in_ok-push.ensures.done n (whole_cells text sizes c.args.count c.args.attrs.now n)).is
     ∙ ap (λ (r : List Column). r ++ row_of (faces_of text sizes) (replicate c.args.count c.args.attrs.now)) c.self.view_is

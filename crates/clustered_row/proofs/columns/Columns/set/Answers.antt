@@ -38,7 +38,7 @@ invariant_of-self-2 c =
     let even = c.self.invariant.even in
     let count = counted (faces c.self.inside.texts) c.self.inside.runs c.args.self.now even c.self.view_is in
     let within = c.requires.within in
-    let n : c.args.count ≡ length (faces_of text sizes) = c.requires.count ∙ sym (length-cells text sizes c.requires.bytes) in
+    let n : c.args.count ≡ length (faces_of text sizes) = c.requires.count ∙ sym (length-cells text sizes c.requires.sizes.bytes) in
     let m = set_makes (faces c.self.inside.texts) (faces c.splice.new.self) c.self.inside.runs c.set.new.self c.self.invariant.even c.self.invariant.whole (faces_of text sizes) c.args.at (c.args.at + c.args.count) c.args.count c.args.attrs.now
     (c.in_ok-splice.ensures.done ∙ ap (λ fs. set_faces fs c.args.at (faces_of text sizes)) c.in_ok-reserve.ensures.faces) c.in_ok-set.ensures.done refl n (omega (arith, even, count, within)) (whole_cells text sizes c.args.count c.args.attrs.now n) in
     record { even = m.even; whole = m.whole }
@@ -50,7 +50,7 @@ returns-clause-done c =
     let even = c.self.invariant.even in
     let count = counted (faces c.self.inside.texts) c.self.inside.runs c.args.self.now even c.self.view_is in
     let within = c.requires.within in
-    let n : c.args.count ≡ length (faces_of text sizes) = c.requires.count ∙ sym (length-cells text sizes c.requires.bytes) in
+    let n : c.args.count ≡ length (faces_of text sizes) = c.requires.count ∙ sym (length-cells text sizes c.requires.sizes.bytes) in
     (set_makes (faces c.self.inside.texts) (faces c.splice.new.self) c.self.inside.runs c.set.new.self c.self.invariant.even c.self.invariant.whole (faces_of text sizes) c.args.at (c.args.at + c.args.count) c.args.count c.args.attrs.now
     (c.in_ok-splice.ensures.done ∙ ap (λ fs. set_faces fs c.args.at (faces_of text sizes)) c.in_ok-reserve.ensures.faces) c.in_ok-set.ensures.done refl n (omega (arith, even, count, within)) (whole_cells text sizes c.args.count c.args.attrs.now n)).is
     ∙ ap (λ (r : List Column). set_columns r c.args.at (row_of (faces_of text sizes) (replicate c.args.count c.args.attrs.now))) c.self.view_is

@@ -7,13 +7,10 @@ use Rattle.clustered_row.specs.Sizes.{is_plain}
 use Rattle.clustered_row.proofs.ColumnLemmas.{plain_are}
 use Rattle.clustered_row.proofs.columns.Columns.set_plain.Goals as goal
 
-pub set-requires-clause-parts : goal.set-requires-clause-parts
-set-requires-clause-parts c =
-    (plain_are c.args.text.now c.deref.result.now c.requires.printable (ap (λ (s : List CellSize). list_all is_plain s) c.deref.ensures.value ∙ c.in_ok-fill_plain.ensures.plain) (ap length c.deref.ensures.value ∙ c.in_ok-fill_plain.ensures.count)).parts
-
-pub set-requires-clause-bytes : goal.set-requires-clause-bytes
-set-requires-clause-bytes c =
-    (plain_are c.args.text.now c.deref.result.now c.requires.printable (ap (λ (s : List CellSize). list_all is_plain s) c.deref.ensures.value ∙ c.in_ok-fill_plain.ensures.plain) (ap length c.deref.ensures.value ∙ c.in_ok-fill_plain.ensures.count)).bytes
+pub set-requires-clause-sizes : goal.set-requires-clause-sizes
+set-requires-clause-sizes c =
+    let plain = plain_are c.args.text.now c.deref.result.now c.requires.printable (ap (λ (s : List CellSize). list_all is_plain s) c.deref.ensures.value ∙ c.in_ok-fill_plain.ensures.plain) (ap length c.deref.ensures.value ∙ c.in_ok-fill_plain.ensures.count) in
+    record { parts = plain.parts; bytes = plain.bytes }
 
 pub set-requires-clause-count : goal.set-requires-clause-count
 set-requires-clause-count c =

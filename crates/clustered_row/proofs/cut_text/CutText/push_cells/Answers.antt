@@ -16,7 +16,7 @@ overflow_add-self-2 c =
     let t = c.cover.new.self in
     let few = columns_few t.sizes.items in
     let more = columns_few c.args.sizes.now in
-    omega (arith, few, more, c.requires.bytes, c.requires.columns, c.requires.room, c.cover.ensures.bytes_left, t.bytes, t.columns, t.within, t.text.ok.0, t.text.ok.1, t.text.small)
+    omega (arith, few, more, c.requires.sizes.bytes, c.requires.columns, c.requires.room, c.cover.ensures.bytes_left, t.bytes, t.columns, t.within, t.text.ok.0, t.text.ok.1, t.text.small)
 
 pub invariant_of-self : goal.invariant_of-self
 invariant_of-self c =
@@ -25,7 +25,7 @@ invariant_of-self c =
     let all = all_sized t.text.items t.sizes.items t.sized_bytes t.sized_columns (sized_of t) (omega (arith, same, c.columns.ensures, c.cover.ensures.covered)) in
     let e = c.push_all.ensures.items ∙ ap (λ (u : List ℕ). t.text.items ++ u) c.as_bytes.ensures.value in
     let k = appended_sized t.text.items c.args.text.now c.push_all.new.items.items t.sizes.items c.args.sizes.now c.push_all-2.new.items.items t.sized_bytes t.sized_columns c.args.columns
-    e c.push_all-2.ensures.items (sized_of t) all c.requires.bytes c.requires.columns c.requires.parts in
+    e c.push_all-2.ensures.items (sized_of t) all c.requires.sizes.bytes c.requires.columns c.requires.sizes.parts in
     record { bytes = k.bytes_are; columns = k.columns_are; within = k.within; parts = k.parts }
 
 pub returns-clause-faces : goal.returns-clause-faces

@@ -46,11 +46,11 @@ pub invariant_of-self : goal.invariant_of-self
 invariant_of-self c =
     let t = c.args.self.now in
     let k = replaced_sized t.text.items c.args.text.now c.replace_text.new.text.items t.sizes.items c.args.sizes.now c.replace_items.new.items.items t.sized_bytes t.sized_columns c.args.from c.args.to
-    c.replace_text.ensures.items c.replace_items.ensures.items (sized_of t) c.requires.from c.requires.to c.requires.bytes c.requires.columns c.requires.parts in
+    c.replace_text.ensures.items c.replace_items.ensures.items (sized_of t) c.requires.from c.requires.to c.requires.sizes.bytes c.requires.columns c.requires.sizes.parts in
     record { bytes = k.bytes_are; columns = k.columns_are; within = k.within; parts = k.parts }
 
 pub returns-clause-row : goal.returns-clause-row
 returns-clause-row c =
     let t = c.args.self.now in
     replaced_shown t.text.items c.args.text.now c.replace_text.new.text.items t.sizes.items c.args.sizes.now c.replace_items.new.items.items t.sized_bytes t.sized_columns c.args.from c.args.to
-    c.replace_text.ensures.items c.replace_items.ensures.items (sized_of t) c.requires.from c.requires.to c.requires.bytes
+    c.replace_text.ensures.items c.replace_items.ensures.items (sized_of t) c.requires.from c.requires.to c.requires.sizes.bytes

@@ -11,7 +11,7 @@ pub returns : goal.returns
 returns c =
     let old = shown c.args.self.now in
     let new = faces_of c.args.text.now c.args.sizes.now in
-    let count = length-cells c.args.text.now c.args.sizes.now c.requires.bytes in
+    let count = length-cells c.args.text.now c.args.sizes.now c.requires.sizes.bytes in
     let first = c.open-start.ensures.faces ∙ ap (opened c.args.from) c.cover.ensures.faces in
     let second = c.open-end.ensures.faces ∙ ap (opened c.args.to) first in
     c.replace.ensures.row ∙ ap (λ (fs : List Face). splice fs c.open-start.result.columns c.open-end.result.columns new) second

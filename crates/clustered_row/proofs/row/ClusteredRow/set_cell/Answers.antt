@@ -23,11 +23,11 @@ returns-then-is_plain-clause-done c =
     c.in_ok-set_plain-2.ensures.done
     ∙ ap (set_columns c.args.self.now c.args.at) (cell_plain_row c.args.text.now c.args.width c.columns_for-count.result c.size_of-size.result c.args.attrs.now is (sym c.is_plain.ensures ∙ c.if-is_plain.true) c.utf8.text)
 
-pub set-requires-clause-parts : goal.set-requires-clause-parts
-set-requires-clause-parts c =
+pub set-requires-clause-sizes : goal.set-requires-clause-sizes
+set-requires-clause-sizes c =
     let is = is_cell c.args.text.now c.args.width c.columns_for-count.result c.size_of-size.result c.args.attrs.now c.shows_as_space.result c.shows_as_space.ensures c.if-shows_as_space.false
     c.size_of-size.ensures.len c.size_of-size.ensures.wide (c.columns_for-count.ensures.value c.args.attrs.now) c.columns_for-count.ensures.some c.columns_for-count.ensures.most in
-    cell_is_cut c.args.text.now c.args.width c.columns_for-count.result c.size_of-size.result c.args.attrs.now is c.utf8.text
+    record { parts = cell_is_cut c.args.text.now c.args.width c.columns_for-count.result c.size_of-size.result c.args.attrs.now is c.utf8.text; bytes = omega (arith, c.size_of-size.ensures.len) }
 
 pub set-requires-clause-within : goal.set-requires-clause-within
 set-requires-clause-within c =

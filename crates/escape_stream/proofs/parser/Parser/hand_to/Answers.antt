@@ -17,7 +17,9 @@ returns-clause-early g c = λ e stream at.
     walks_up_to g.P.Perform.does c.reading-pieces.result c.args.performer.now c.hand_open-result.new.performer stream c.args.bytes.now (b.same ∙ at) b.start b.bytes_are (r.pieces stream at).1 (c.hand_open-result.ensures.early e)
 
 pub returns-clause-memory : goal.returns-clause-memory
-returns-clause-memory g c = λ e stream at. takes_some g.P.Perform.does c.args.performer.now c.hand_open-result.new.performer stream c.args.bytes.now (returns-clause-early g c e stream at)
+returns-clause-memory g c = λ e stream at.
+    let early = returns-clause-early g c e stream at in
+    takes_some stream c.args.bytes.now early.done early.left early.whole early.takes
 
 pub returns-clause-done : goal.returns-clause-done
 returns-clause-done g c = on_ok_weaker c.hand_open-result.result (λ h stream at. subst (λ (ps : List Piece). FoldsTo g.P.Perform.does c.args.performer.now (items_of ps) c.hand_open-result.new.performer) (c.reading-pieces.ensures.pieces stream at).1 (h (length stream))) c.hand_open-result.ensures.done

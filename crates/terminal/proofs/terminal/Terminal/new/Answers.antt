@@ -10,7 +10,7 @@ invariant_of-result g c = λ e.
       ready = c.in_ok-state.ensures.ready;
       parser = c.new-2.ensures.failed;
       reached = ([], c.new-2.ensures.held);
-      spelled = spelled_first (λ w. g.W.Widths.width_of w) (with_parts c.in_ok-state.state c.new-2.result.held) c.args.width c.args.height c.requires.width.1 c.requires.height.1
+      spelled = spelled_first (λ w. g.W.Widths.width_of w) (with_parts c.in_ok-state.state c.new-2.result.held) c.args.width c.args.height c.requires.size.columns.1 c.requires.size.rows.1
           (record { state = ap (λ v. v.state) view; run = ap (λ v. v.held) view; unfinished = c.new-2.ensures.held })
           (ap (λ l. l.entries) c.in_ok-state.ensures.log) c.in_ok-state.ensures.shape c.in_ok-state.ensures.ready.stays;
     }
