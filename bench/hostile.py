@@ -2,24 +2,25 @@
 
 bench/measure hostile [--check] [WORD ..]    all streams, or those with one of the words in their names
 
-Each stream is run at three sizes under valgrind's callgrind. The three numbers are the instructions for a byte up to the
-first size, from there to the second, and from there to the third, so the third shows a cost that grows with the stream:
-first those of `relay`, which reads 4096 bytes at a time, then those of a terminal that is fed the stream in one call, where
-a step that looks at all the rest costs most. Then `relay` is run at three larger sizes without valgrind. The numbers are
-the peaks of resident memory in MB, and `kept` is their growth in bytes for each byte from the first size to the third.
+Each stream is run at three sizes under valgrind's callgrind. The three numbers are the instructions for a byte up to
+the first size, from there to the second, and from there to the third, so the third shows a cost that grows with the
+stream: first those of `relay`, which reads 4096 bytes at a time, then those of a terminal that is fed the stream in
+one call, where a step that looks at all the rest costs most. Then `relay` is run at three larger sizes without
+valgrind. The numbers are the peaks of resident memory in MB, and `kept` is their growth in bytes for each byte from
+the first size to the third.
 
 grows, falls    a third number of instructions is above the second by more than a tenth and 2, or below it by as much
 dear            a byte takes more than the bound that is named for the stream
 memory          a peak is above 8 MB (20 MB on 4096 columns, 40 MB on 4096 rows) and twice the largest single text
-keeps           memory grows by more than 0.5 MB and a tenth of a byte for each byte; where the stream is one text, by 2.2
-                bytes for each byte of it
+keeps           memory grows by more than 0.5 MB and a tenth of a byte for each byte; where the stream is one text, by
+                2.2 bytes for each byte of it
 -               the run was not over after two minutes; larger sizes were left out
 
 At the end come screens of four sizes: instructions and memory of the first update, after 80 letters.
 
---check counts the instructions of three small sizes at equal distances, in one call, and looks at memory at two. A stream
-fails if it grows, keeps or takes memory as above. The last line is 'N passed, M failed'; the status is 1 if anything failed.
-Without valgrind it says so and passes.
+--check counts the instructions of three small sizes at equal distances, in one call, and looks at memory at two. A
+stream fails if it grows, keeps or takes memory as above. The last line is 'N passed, M failed'; the status is 1 if
+anything failed. Without valgrind it says so and passes.
 """
 import os
 import re
@@ -106,7 +107,7 @@ class Feeder(threading.Thread):
 
 
 def watch(process, feeder, ends_asleep):
-    """Returns the peak of a process until it ends, or until it sleeps with its whole input read: then it waits to write."""
+    """Returns the peak of a process until it ends, or sleeps with its whole input read: then it waits to write."""
     most, end = 0, time.monotonic() + LIMIT
     while True:
         is_fed, found = not feeder.is_alive(), status(process)
@@ -124,8 +125,8 @@ def watch(process, feeder, ends_asleep):
 def peak(words, pieces):
     """Returns a program's peak of resident memory on its input, in bytes.
 
-    `wait4` counts the memory of this program before `exec` as well, so the peak is read from /proc while the program runs.
-    What it shows at its end goes into a full pipe, so that it waits there; updates are written freely.
+    `wait4` counts the memory of this program before `exec` as well, so the peak is read from /proc while the program
+    runs. What it shows at its end goes into a full pipe, so that it waits there; updates are written freely.
     """
     given, to = os.pipe()
     shown, write = full_pipe() if "--every" not in words else (None, os.open(os.devnull, os.O_WRONLY))

@@ -44,12 +44,12 @@ def lanes():
 
 
 def endings(crate, cases, files=()):
-    """Returns how the program of a crate ends for each case, by name: its status, what it writes, with a line feed at the end
-    where it wrote none, and what it tells on standard error.
+    """Returns how the program of a crate ends for each case, by name: its status, what it writes, with a line feed at
+    the end where it wrote none, and what it tells on standard error.
 
-    The sources run unproved, by `rt try`: one compile for all cases.
-    A case is the program's words and its standard input; the files that words name lie where it runs. A case that does not
-    end has no ending; where nothing ran the kit's lines are printed and the process ends.
+    The sources run unproved, by `rt try`: one compile for all cases. A case is the program's words and its standard
+    input; the files that words name lie where it runs. A case that does not end has no ending; where nothing ran the
+    kit's lines are printed and the process ends.
     """
     with tempfile.TemporaryDirectory() as folder:
         for name, (words, given) in cases.items():

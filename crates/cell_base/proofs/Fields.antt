@@ -115,7 +115,7 @@ pub first_within : (c : ℕ) (bs : List ℕ) → list_any (λ b. eqb b c) bs ≡
 first_within c [] h = absurd (false≢true h)
 first_within c (b ∷ bs) h = first_within_by (position_or_len (λ x. eqb x c) bs) (length bs) (eqb b c) (list_any (λ x. eqb x c) bs) h (first_within c bs)
 
--- a text that has c is what stands before its first c, that c, and what follows it
+-- a text that has c is the text before its first c, that c, and the text after it
 pub cut_joined : (c : ℕ) (bs : List ℕ) → list_any (λ b. eqb b c) bs ≡ true → before_first (λ b. eqb b c) bs ++ c ∷ after_first (λ b. eqb b c) bs ≡ bs
 cut_joined c bs h =
     let l = first_within c bs h in

@@ -32,7 +32,7 @@ module _ {K X : Type 0} (R : K → K → Ordering) where
   abbrev pub put : List (K × X) → K × X → List (K × X)
   put m p = insert_entry R m p.0 p.1
 
-  -- ---- what holds of the keys and of the values
+  -- ---- properties of each key and of each value
 
   module _ (A : K → Type 0) (B : X → Type 0) where
     abbrev pub Each : List (K × X) → Type 0
@@ -109,6 +109,6 @@ module _ {K X : Type 0} (R : K → K → Ordering) where
         ∙ fold_sorted_is qs (m ++ q ∷ []) (all_joined (λ e. Above R e.0 (keys_of qs)) m (q ∷ []) (below_tail m q qs b) (head_above q qs h, tt)) (tail_sorted q qs h)
         ∙ append_assoc m (q ∷ []) qs
 
-    -- entries that stand in order stay as they are
+    -- inserting entries that are sorted by key, one by one, gives the entries unchanged
     pub by_key_sorted : (qs : List (K × X)) → IsStrictlySortedBy R (keys_of qs) → fold put [] qs ≡ qs
     by_key_sorted qs h = fold_sorted_is qs [] tt h

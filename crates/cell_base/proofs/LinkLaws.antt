@@ -21,7 +21,7 @@ use Rattle.cell_base.proofs.Fields.{Lacks, EachLacks, all_joined, all_prefix, al
 use Rattle.cell_base.proofs.TextsReading.{reading_by}
 use Rattle.cell_base.proofs.KeyOrder.{put, fold_each, sorted_by_key, by_key_sorted}
 
--- what a key and a value hold that came from a text without `;`
+-- the key and the value of a parameter, parsed from a text without `;`: UTF-8 without `:` and `;`, and the key also without `=`
 pub record IsKey (k : List ℕ) : Type 0 where
   pub no_equals : Lacks 61 k
   pub no_colon : Lacks 58 k
@@ -226,7 +226,7 @@ parts_back (a ∷ []) o s e = absurd (cc)
 parts_back (a ∷ p ∷ []) o s e = absurd (cc)
 parts_back (a ∷ p ∷ u ∷ us) o s e = texts_back p (join_with_byte 59 (u ∷ us)) o s.1.0 e
 
--- what the parts of a body gave reads back
+-- the link that a body is parsed to reads back from its text
 pub body_back : (body : List ℕ) (o : Option Link) → link_reading (fields 59 body) ≡ Ok o → link_reading (fields 59 (text_of_link o)) ≡ Ok o
 body_back body o e = parts_back (fields 59 body) o (fields_lack 59 body) e
 
@@ -297,7 +297,7 @@ writable_reads qs U h u some =
     no_text [] e = e
     no_text (p ∷ ps) e = ap (λ b. b && eqb (length U) 0) (text_long p ps)
 
--- what a reading gave is given, not empty, and writable
+-- a parsed link: its parameters are sorted and writable, it isn't implicit, and it isn't empty
 record IsRead (l : Link) : Type 0 where
   printed : IsPrinted l.params
   given : l.implicit ≡ false

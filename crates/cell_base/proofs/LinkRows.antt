@@ -1,4 +1,4 @@
--- Rows that compute: what the definitions of a link's text say of some texts.
+-- Rows that compute: the text of a link, and the readings of some texts.
 use Rattle.std.proofs.Common.{◌≡◌, refl, codes, [], ◌∷◌, false}
 use Rattle.std.specs.Prelude.{Some, None, Ok, Err}
 use Rattle.cell_base.specs.LinkText.{link_text, link_reading, texts_reading}

@@ -13,7 +13,7 @@ use Rattle.std.proofs.lemmas.List.{take_all}
 use Rattle.std.proofs.lemmas.Str.{IsUtf8-from_ascii}
 use Rattle.cell_base.specs.Cluster.{read_cluster, clusters}
 
--- what by itself is one cluster is read as it is
+-- a text that is one cluster by itself is read unchanged
 pub read_alone : (p : List ℕ) → graphemes true p ≡ p ∷ [] → read_cluster p ≡ p
 read_alone p e = ap (λ (gs : List (List ℕ)). if length gs == 1 then p else replacement_bytes) e
 

@@ -23,12 +23,12 @@ use Rattle.cell_base.specs.Link.{Param, texts_of}
 use Rattle.cell_base.specs.LinkText.{put_param, by_key, param_text, params_text}
 use Rattle.cell_base.proofs.Fields.{first_within, joined_utf8, each_utf8}
 
--- what `from_utf8` answers is `is_utf8`
+-- `from_utf8` returns `Ok` exactly where `is_utf8` holds
 pub utf8_answer : {S E : Type 0} (P : S → Type 0) (Q : E → Type 0) (bs : List ℕ) (r : Result S E) → MatchResult r (λ s. P s × IsUtf8 bs) (λ e. ¬ (IsUtf8 bs) × Q e) → is_ok r ≡ is_utf8 bs
 utf8_answer P Q bs (Ok s) h = sym (is_utf8-from_IsUtf8 bs h.1)
 utf8_answer P Q bs (Err e) h = sym (false_from_ne_true (is_utf8 bs) (λ t. h.0 (IsUtf8-from_is_utf8 bs t)))
 
--- what `contains` answers at an ASCII character is `list_any`
+-- for an ASCII character, `contains` returns whether some byte of the text is equal to it
 pub contains_answer : (c : ℕ) (bs : List ℕ) (r : Bool) → MatchBool r ((i : ℕ) × (j : ℕ) × FindsChar c bs (Some (i, j)) × (i ≤ j) × (j ≤ length bs)) (FindsChar c bs None) → c < 128 → r ≡ list_any (λ b. eqb b c) bs
 contains_answer c bs r h l =
     let f = contains_char c bs r h l in

@@ -22,7 +22,7 @@ use Rattle.cell_base.specs.declared.stored_color.StoredColor.{StoredColor}
 use Rattle.cell_base.specs.declared.stored_color.ColorKind.{ColorKind}
 use Rattle.cell_base.specs.declared.stored_color.ColorKind.TheVariants.{Unset, Indexed, Direct, DirectOrIndexed}
 
--- what a byte stands for
+-- the value that a byte encodes
 intensity_at : ℕ → Intensity
 intensity_at zero = Normal
 intensity_at (suc zero) = Bold

@@ -93,7 +93,7 @@ pub whole-blanks : (n : ℕ) (a : Attributes) → IsWhole (replicate n (blank a)
 whole-blanks zero a = tt
 whole-blanks (suc n) a = whole-blanks n a
 
--- ---- columns set after others
+-- ---- columns set right after other columns
 
 closed_end-again : (r : Row) → closed_end (closed_end r) ≡ closed_end r
 closed_end-again [] = refl
@@ -114,7 +114,7 @@ closed_end-append [] x r = refl
 closed_end-append (y ∷ []) x r = refl
 closed_end-append (y ∷ z ∷ l) x r = ap (λ (s : Row). y ∷ s) (closed_end-append (z ∷ l) x r)
 
--- what was cut ends closed, also after whole columns
+-- a row that is closed at its end stays closed with whole columns after it
 cut_ends : (l a : Row) → IsWhole a → closed_end (closed_end l ++ a) ≡ closed_end l ++ a
 cut_ends l [] p = ap closed_end (append-nil (closed_end l)) ∙ closed_end-again l ∙ sym (append-nil (closed_end l))
 cut_ends l (x ∷ a) p = closed_end-append (closed_end l) x a ∙ ap (λ (r : Row). closed_end l ++ r) (whole_ends (x ∷ a) p)
@@ -124,7 +124,7 @@ cut_starts zero r = closed_start-again r
 cut_starts (suc n) [] = refl
 cut_starts (suc n) (x ∷ r) = refl
 
--- columns that are set after others are set with them
+-- setting columns, and then more right after them, is setting them all at once
 pub set_columns-again : (row : Row) (at : ℕ) (a b : Row) → at + length a ≤ length row → IsWhole a → set_columns (set_columns row at a) (at + length a) b ≡ set_columns row at (a ++ b)
 set_columns-again row at a b h p =
     let prefix : Row = closed_end (take at row) in

@@ -129,14 +129,14 @@ impl CellAttributes {
         self
     }
 
-    /// Whether foreground and background change places.
+    /// Whether foreground and background are swapped (reverse video).
     pub fn reverse(&self) -> bool
         ensures { result ≡ self.now.reverse }
     {
         self.rendition.style.flags.reverse
     }
 
-    /// Sets whether foreground and background change places, and returns `self`.
+    /// Sets whether foreground and background are swapped, and returns `self`.
     pub fn set_reverse(&mut self, value: bool) -> &mut CellAttributes
         ensures chains { result.ghost_name ≡ self.entry.ghost_name }
         ensures set { result.now ≡ record self.old { reverse = value } }

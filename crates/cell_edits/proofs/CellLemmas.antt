@@ -128,7 +128,7 @@ after_cut (c ∷ n ∷ cs) (suc (suc p)) d h l = by_test (nat_le 2 c.width)
     (λ e. after_cut cs p d (sym (split_wide c n (take (suc p) cs) e) ∙ h) (omega arith) ∙ sym (ap (λ (r : Row). closed_start (drop (suc (suc (suc p))) r)) (row_wide c n cs e)))
     (λ e. after_cut (n ∷ cs) (suc p) d (sym (split_narrow c n (take (suc p) cs) e) ∙ h) (omega arith) ∙ sym (ap (λ (r : Row). closed_start (drop (suc (suc (suc p))) r)) (row_narrow c n cs e)))
 
--- what is cut at the end where nothing is after it
+-- where a wide cell is split at the end, the cells with a blank in place of it are not split
 pub cut_whole : (cells : List CellContent) (p : ℕ) (a : Attributes) → ends_split (take (suc p) cells) ≡ true → p < length cells → ends_split (take p cells ++ blank_cell a ∷ []) ≡ false
 cut_whole [] p a h l = absurd (omega arith)
 cut_whole (c ∷ []) zero a h l = refl

@@ -115,7 +115,7 @@ pub still_before : (first second : List CellContent) (s e : ℕ) → s < e → t
 still_before first second s e h k =
     sym (take_less s (e - 1) second (omega arith)) ∙ ap (take s) k ∙ take_less s (e - 1) first (omega arith)
 
--- ---- a cell between what stands before it and after it
+-- ---- a cell between the columns before it and after it
 
 pub row_narrow_any : (c : CellContent) (cs : List CellContent) → nat_le 2 c.width ≡ false → row_of_cells (c ∷ cs) ≡ Narrow c.text c.attributes ∷ row_of_cells cs
 row_narrow_any c [] e = rw e refl
@@ -217,7 +217,7 @@ insert_two xs at x y h =
     let n : length (take at xs) ≡ at = length-take-le at xs h in
     λ i. take_at (take at xs) (y ∷ drop at xs) at n i ++ x ∷ drop_at (take at xs) (y ∷ drop at xs) at n i
 
--- ---- what is left where a column may have gone
+-- ---- the remaining row, after a column may have been removed
 
 pub rest_removed : (cells mid : List CellContent) (x : ℕ) → x < length cells → row_of_cells mid ≡ removed x (row_of_cells cells)
     → row_of_cells mid ≡ (if nat_lt x (length (row_of_cells cells)) then removed x (row_of_cells cells) else row_of_cells cells)
@@ -251,7 +251,7 @@ pub falls_short : (rest : Row) (m : ℕ) (a : Attributes) → length rest + 1 < 
     → rest ≡ (if nat_le m (length rest + 1) then inserted (m - 1) (blank a ∷ []) rest else rest)
 falls_short rest m a h = sym (ap (λ t. if t then inserted (m - 1) (blank a ∷ []) rest else rest) (leb_false m (length rest + 1) h))
 
--- ---- after a cell that was written no wide one stands on both sides
+-- ---- after a cell is written, no wide cell is split at its end
 
 pub whole_narrow : (before after : List CellContent) (c : CellContent) (new : List CellContent) (n : ℕ) → n ≡ length before + 1 → new ≡ before ++ c ∷ after → ends_split before ≡ false → nat_le 2 c.width ≡ false
     → ends_split (take n new) ≡ false

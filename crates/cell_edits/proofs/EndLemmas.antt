@@ -78,7 +78,7 @@ ends_right (x ∷ y ∷ ys) c h = by_test (nat_le 2 x.width)
 pub last_right : (cells : List CellContent) (k : ℕ) (d : CellContent) → k < length cells → ends_split (take k cells) ≡ true → EndsRight (row_of_cells (take (k + 1) cells))
 last_right cells k d l h = subst (λ (xs : List CellContent). EndsRight (row_of_cells xs)) (sym (take_more cells k d l)) (ends_right (take k cells) (get_or cells k d) h)
 
--- ---- what is pruned
+-- ---- pruned blanks at the end
 
 abbrev is_kept : Column → Bool
 is_kept column = not (is_plain_blank column)
@@ -190,7 +190,7 @@ set_end i b c (n ∷ m ∷ cs) d = by_test (nat_le 2 c.width)
     ∙ ap row_of_visible (sym (ends_later b (visible_at i c.text 1 c.attributes) (i + 1) n (m ∷ cs)))
     ∙ sym (ap (λ (r : Row). row_of_visible (with_end_wrapped b (visible_from i r))) (row_narrow c n (m ∷ cs) e)))
 
--- what the code sets
+-- setting the wrapped mark of the last cell that is read sets it at the end of the row
 pub end_set : (cells : List CellContent) (at : ℕ) (b : Bool) (d : CellContent) (new : CellContent) → 0 < length cells → at ≡ last_read cells → new ≡ mark_cell b (get_or cells at d)
     → row_of_cells (set cells at new) ≡ row_end_wrapped b (row_of_cells cells)
 end_set [] at b d new l e n = absurd (omega arith)

@@ -1,4 +1,4 @@
--- Rows of lines are whole, and so are the cells that are seen of them; what the words for rows give within a row.
+-- Rows of lines are whole, and their visible cells give the row back; the operations on rows, within a row.
 use Rattle.std.proofs.Common.{◌≡◌, ℕ, zero, suc, ◌+◌, ◌-◌, ◌<◌, ◌≤◌, false, List, [], ◌∷◌, ◌++◌, length, take, replicate, refl, sym, ap, subst, ◌∙◌, append-nil, length-append, arith}
 use Rattle.std.specs.Prelude.{nat_le}
 use Rattle.std.specs.List.{flat_map}

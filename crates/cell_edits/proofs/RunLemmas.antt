@@ -48,7 +48,7 @@ blanks_more {X} first now start at x o h e =
     written_more first now (take start first ++ replicate (at - start) x) at x e (omega arith) h
     ∙ ap (λ (xs : List X). xs ++ drop (at + 1) first) (append_assoc (take start first) (replicate (at - start) x) (x ∷ []) ∙ ap (λ (xs : List X). take start first ++ xs) (one_more (at - start) x ∙ ap (λ n. replicate n x) on))
 
--- blanks in place of all that there is, and after
+-- blanks over all items, and after them up to the width: the row is all blanks
 pub blanks_after : {X : Type 0} (first now new : List X) (len width : ℕ) (x : X) → len ≡ length first → len ≤ width → now ≡ take 0 first ++ replicate (len - 0) x ++ drop len first → new ≡ now ++ replicate (width - len) x → new ≡ replicate width x
 blanks_after {X} first now new len width x e h n m =
     let all : len - 0 ≡ len = omega arith in
@@ -147,7 +147,7 @@ plain_set cells opened now at bytes a some l w p q e =
     ∙ ap (λ k. cut at (row_of_cells cells) ++ flat_map cell_columns (plain_cells bytes a) ++ cut_prefix k (row_of_cells cells)) last
     ∙ sym (overlaid_within (row_of_cells cells) at (plain_cells bytes a) (omega arith) (omega arith))
 
--- ---- what fits
+-- ---- cells that fit
 
 leb_false : (m n : ℕ) → n < m → nat_le m n ≡ false
 leb_false m n h = elim (leb_tells m n) [ inl p ↦ absurd (omega arith) | inr p ↦ p.0 ]

@@ -10,13 +10,13 @@ use Rattle.cell_edits.specs.ShownCells.{lent_cells}
 use Rattle.cell_edits.proofs.CellLemmas.{by_test, wide_is, narrow_is, row_wide, split_wide, split_joined, row_joined}
 use Rattle.cell_edits.proofs.CutLemmas.{row_narrow_any}
 
--- the cells before a place are those that are shown there, and with what the cells from there on are shown as they are the whole
+-- the first `at` cells are settled: followed by the lent cells of the remaining ones, they are the lent cells of the whole row
 pub record IsSettled (at : ℕ) (now old : List CellContent) : Type 0 where
   pub whole : ends_split (take at now) ≡ false
   pub row : row_of_cells now ≡ row_of_cells old
   pub same : take at now ++ lent_cells (row_of_cells (drop at now)) ≡ lent_cells (row_of_cells old)
 
--- the list from one of its places on
+-- the list from a position on is its item there and the list from the next position on
 from_position : {X : Type 0} (xs : List X) (p : ℕ) (d : X) → p < length xs → drop p xs ≡ get_or xs p d ∷ drop (suc p) xs
 from_position [] p d l = absurd (omega arith)
 from_position (x ∷ xs) zero d l = refl
@@ -92,7 +92,7 @@ settled_last old xs p d l w s =
       same = (λ i. prefix i ++ lent_cells (row_of_cells (none i))) ∙ append_assoc (take p xs) (b ∷ []) [] ∙ ap (λ (ys : List CellContent). take p xs ++ ys) (sym (ap (λ (ys : List CellContent). lent_cells (row_of_cells ys)) left ∙ ap lent_cells (shown_last c e))) ∙ s.same;
     }
 
--- the blank is put after the wide cell, or in its place where it is the last
+-- the blank is put after the wide cell, or takes the place of it where it is the last cell
 pub settled_put : (old xs : List CellContent) (p n : ℕ) (d : CellContent) → n ≡ length xs → p < length xs → 2 ≤ (get_or xs p d).width → (get_or xs p d).width ≤ 2 → IsSettled p xs old
     → IsSettled (p + 1 + 1) (set xs (if nat_lt (p + 1) n then p + 1 else p) (blank_cell (get_or xs p d).attributes)) old
 settled_put old xs p n d long l w most s =

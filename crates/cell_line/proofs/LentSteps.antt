@@ -1,4 +1,4 @@
--- A `&mut` to a line's cells is handed on in an `Ok`, in either of the calls that lend them: what `settled_cells` and `slice_of` say, and that it is what their contract, which is one, wants at the end. Assumes `Logic`.
+-- The calls that lend a line's cells return a `&mut` in an `Ok`: `settled_cells` and `slice_of` ensure the callers' common contract. Assumes `Logic`.
 use mathlib.Core.Path.{◌≡◌, refl, sym, ap, ◌∙◌}
 use mathlib.Core.Option.{some, none}
 use Prim.Native.Nat.{ℕ, zero, suc}
@@ -122,7 +122,7 @@ module _ {M : Type 1} {𝓤 : Ura M} (𝓛 : Logic 𝓤) (at_mem : Memory → SP
     abbrev pub Answered : RattleType
     Answered = result.the_row Stored error.the_row
 
-    -- what the calls bind outside, and what the whole does
+    -- the ghosts of the two calls, and of the whole function
     abbrev pub at_settled : Settles.Ghost
     at_settled = (((κ, tt), (q, tt), tt, (self, tt), (vptr b o ∷ [], tt)), tt)
 
@@ -135,7 +135,7 @@ module _ {M : Type 1} {𝓤 : Ura M} (𝓛 : Logic 𝓤) (at_mem : Memory → SP
     abbrev pub Post : Val → SProp 𝓤
     Post = (walk_of 𝓛 own.ended stayed clauses).post bound
 
-    -- what the line ends as with a vector, and with cells
+    -- the line's final value, for a final vector and for final cells
     abbrev with_stored : Vec CellContent → LineContent
     with_stored cells = cells_mut content cells.items
 
@@ -154,7 +154,7 @@ module _ {M : Type 1} {𝓤 : Ura M} (𝓛 : Logic 𝓤) (at_mem : Memory → SP
     abbrev pub Same : Answered.Denot → Type 0
     Same a = IfOk a Shown
 
-    -- what `settled_cells` ensures, and `slice_of`
+    -- the postconditions of `settled_cells` and of `slice_of`
     abbrev pub Ensured : Answered.Denot → SProp 𝓤
     Ensured a = (settled.spec 𝓛 at_mem run (κ, tt) (self, tt)).ensures tt a
 
@@ -169,7 +169,7 @@ module _ {M : Type 1} {𝓤 : Ura M} (𝓛 : Logic 𝓤) (at_mem : Memory → SP
     sliced x r = ex_e 𝓤 _ (λ ws. via 𝓤 (sep 𝓤 (sem 𝓛 (Goes x r)) (fact 𝓤 (r.now ≡ x.now.items))) (snd∗ 𝓤 (sem 𝓛 (lasts slice.ended (κ, tt) (x, tt) ws)) (sep 𝓤 (sem 𝓛 (Goes x r)) (fact 𝓤 (r.now ≡ x.now.items))))
         (needs 𝓤 (r.now ≡ x.now.items) (sem 𝓛 (Goes x r)) (λ e. qed 𝓛 (‵ (Goes x r) ∷ []) ∵ check ! e $ done !)))
 
-    -- the two cases of what `settled_cells` answered
+    -- the two cases of the result of `settled_cells`
     pub cases : {K : Type 0} {Γ : List (Item 𝓤)} {G : Goal 𝓤 H} → K → (a : Answered.Denot) (v : Val) → Same a
         → ((x : MutBor (Vec CellContent)) → Shown x → v ≡ live 0 (of_list (mut_vals x)) → Seq K 𝓛 (‵ (Stored.own_val x (mut_vals x)) ∷ ‵ (Follows x) ∷ Γ) G)
         → (v ≡ live 1 (of_list (vstruct vnil ∷ [])) → Seq K 𝓛 (‵ (fres γ (line.coded.code content)) ∷ Γ) G)
@@ -183,7 +183,7 @@ module _ {M : Type 1} {𝓤 : Ura M} (𝓛 : Logic 𝓤) (at_mem : Memory → SP
         fpick t (λ us. fsplit t $ feq_l t (λ e. fpick t (λ vss. fsplit t $ feq_l t (λ e'. fsplit t $ fpick t (λ none. fsplit t $ feq_l t (λ e''. drop t $ drop t $
         err (ap only e ∙ ap (λ (ws : List Val). live 1 (of_list ws)) (e' ∙ ap (λ (ws : List Val). ws ++ []) e''))))))))
 
-    -- what the clause says of the line at the end
+    -- the clause for the line's final value
     abbrev Ends : (result.the_row Lent error.the_row).Denot → List CellContent → LineContent → Type 0
     Ends a cells new = IsOk a → length cells ≡ length content.columns → new ≡ cells_mut content cells
 

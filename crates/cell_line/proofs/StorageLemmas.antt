@@ -23,6 +23,6 @@ columns_by a line shown = kept_by a.is_clustered ∙ ap (λ (l : LineContent). l
 pub length_of_cells : (a : Inside) (line : LineContent) → content_of a ≡ line → a.is_clustered ≡ false → vec_len a.cells ≡ length line.columns
 length_of_cells a line shown kind = a.cells.ok.0 ∙ sym (length-row a.cells.items) ∙ ap length (columns_of_cells a line shown kind)
 
--- what a lender ends with is the same
+-- lenders with equal final values are equal
 pub same_lender : {N A B C : Type 0} (name : N) {f g : A → B} → f ≡ g → ◌≡◌ {A = (N × (A → B)) ⊎ C} (inl (name, f)) (inl (name, g))
 same_lender name e = λ i. inl (name, e i)

@@ -14,7 +14,7 @@ use Rattle.cell_views.specs.declared.clusters.Clusters.{Clusters}
 
 -- ---- one cluster
 
--- what a cell says of each of its bytes is added at the end
+-- a cell that is appended adds its items at the end
 flat_map-one : {A : Type 0} (f : VisibleCell → List A) (cells : List VisibleCell) (v : VisibleCell) → flat_map f cells ++ f v ≡ flat_map f (cells ++ v ∷ [])
 flat_map-one f cells v = ap (λ xs. flat_map f cells ++ xs) (sym (append-nil (f v))) ∙ sym (flat_map-append f cells (v ∷ []))
 
@@ -91,7 +91,7 @@ joined_grows [] v k e t = absurd (omega arith)
 joined_grows (g ∷ groups) v k e t =
     joined_either (g ∷ groups) v k e ∙ ap (λ b. if b then g ∷ groups ++ (v ∷ []) ∷ [] else set (g ∷ groups) k (last_of (g ∷ groups) ++ v ∷ [])) t
 
--- ---- what is known of the clusters so far
+-- ---- the state of the clusters so far
 
 pub made_begun : (groups : List (List VisibleCell)) (s t : Clusters) (v : VisibleCell) → IsMadeOf groups s → begins_after groups v ≡ true
     → t.made.items ≡ s.made.items ++ cluster_of (v ∷ []) ∷ [] → t.ends_in_space ≡ is_space v → t.holds_text ≡ not (is_space v) → IsMadeOf (joined begins_cluster groups v) t

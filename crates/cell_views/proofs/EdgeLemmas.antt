@@ -40,7 +40,7 @@ split_within (suc n) [] h = absurd (false≢true h)
 split_within zero (c ∷ row) h = omega arith
 split_within (suc n) (c ∷ row) h = let more = split_within n row h in omega arith
 
--- the definitions' parts by what an edge does
+-- the parts of the definitions, by whether the edge splits a wide cell
 module _ (at : ℕ) (row : Row) (b : Bool) (h : is_split at row ≡ b) where
   pub start_is : inner_start at row ≡ (if b then at + 1 else at)
   start_is = ap (λ t. if t then at + 1 else at) h
@@ -54,7 +54,7 @@ module _ (at : ℕ) (row : Row) (b : Bool) (h : is_split at row ≡ b) where
   pub end_half_is : end_half at row ≡ (if b then half_at (at - 1) at row else [])
   end_half_is = ap (λ t. if t then half_at (at - 1) at row else []) h
 
--- a column's attributes, whatever stands where there is none
+-- a column's attributes don't depend on the default for columns past the end
 pub same_at : (row : Row) (at : ℕ) (a : Attributes) → at < length row
     → a ≡ column_attributes (get_or row at (blank a)) → a ≡ column_attributes (get_or row at (blank plain))
 same_at row at a h e = e ∙ ap column_attributes (get_or_default row at (blank a) (blank plain) h)

@@ -61,7 +61,7 @@ whole_all {A = A} begins groups (x ∷ xs) =
 pub groups_are_cut : {A : Type 0} (begins : List A → A → Bool) (xs : List A) → AreGroupsOf begins xs (groups_by begins xs)
 groups_are_cut begins xs = record { whole = whole_all begins [] xs; cut = cut_all begins [] xs tt }
 
--- ---- groups after others
+-- ---- only the last group grows
 
 joined_some : {A : Type 0} (begins : List A → A → Bool) (groups : List (List A)) (x : A) → 0 < length (joined begins groups x)
 joined_some begins [] x = omega arith

@@ -45,7 +45,7 @@ column_fits (Clustered s) v cells e = fits_after (clustered.cells_left s.cells) 
     omega arith)
     e
 
--- the first of some cells are passed, and stand before the half too
+-- a run that is passed at the start of some cells is passed also where a half comes after these cells
 pub passed_before : {X : Type 0} (run : Option X) (text : X → List ℕ) (attributes : X → Attributes) (most at : ℕ) (old new half : List VisibleCell)
     → MatchOption run (new ≡ old) (λ r. old ≡ visible_each at (text r) (attributes r) ++ new) → IfSome run (λ r. (0 < length (text r)) × (length (text r) ≤ most))
     → MatchOption run (new ++ half ≡ old ++ half) (λ r. old ++ half ≡ visible_each (first_column (old ++ half)) (text r) (attributes r) ++ (new ++ half))
@@ -55,7 +55,7 @@ passed_before (Some r) text attributes most at old new half e some =
     let first : at ≡ first_column (old ++ half) = sym (ap first_column all ∙ first_of_each at (text r) (attributes r) (new ++ half) some.0) in
     all ∙ ap (λ n. visible_each n (text r) (attributes r) ++ (new ++ half)) first
 
--- where no half stands first
+-- where no half comes first
 pub passed_first : {X : Type 0} (run : Option X) (text : X → List ℕ) (attributes : X → Attributes) (half : Option Half) (old new : List VisibleCell) → is_some half ≡ false
     → MatchOption run (new ≡ old) (λ r. old ≡ visible_each (first_column old) (text r) (attributes r) ++ new)
     → MatchOption run (half_left half ++ new ≡ half_left half ++ old) (λ r. half_left half ++ old ≡ visible_each (first_column (half_left half ++ old)) (text r) (attributes r) ++ (half_left half ++ new))

@@ -19,7 +19,7 @@ pub row_of_seen : (cells : List VisibleCell) → row_of_visible (map seen cells)
 row_of_seen [] = refl
 row_of_seen (v ∷ cells) = λ i. seen_columns v i ++ row_of_seen cells i
 
--- what is read is what is visible, where the last cell that is read isn't split
+-- the cells that are read are the visible ones, where the last cell isn't split
 pub read_is_visible : (i : ℕ) (cells : List CellContent) → ends_split cells ≡ false → map seen (read_from i cells) ≡ visible_from i (row_of_cells cells)
 read_is_visible i [] h = refl
 read_is_visible i (c ∷ []) h = rw h refl
@@ -44,7 +44,7 @@ pub picked : (p : ℕ → Bool) (cells : List VisibleCell) → map seen (filter 
 picked p [] = refl
 picked p (v ∷ cells) = filter_if seen (p v.column) v (filter (λ w. p w.column) cells) _ (picked p cells)
 
--- the row of what is picked
+-- the row of the picked cells
 pub row_picked : (p : ℕ → Bool) (cells : List CellContent) → ends_split cells ≡ false → row_of_visible (filter (λ v. p v.column) (read_from 0 cells)) ≡ row_of_visible (filter (λ v. p v.column) (visible_cells (row_of_cells cells)))
 row_picked p cells h =
     sym (row_of_seen (filter (λ v. p v.column) (read_from 0 cells))) ∙ ap row_of_visible (picked p (read_from 0 cells) ∙ ap (filter (λ v. p v.column)) (read_is_visible 0 cells h))

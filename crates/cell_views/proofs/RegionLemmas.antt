@@ -1,4 +1,4 @@
--- Parts of a row, and what follows clusters of a text.
+-- Parts of a row, and the text after some of its clusters.
 use Rattle.std.proofs.Common.{◌≡◌, ℕ, zero, suc, ◌+◌, ◌-◌, ◌<◌, ◌≤◌, true, false, List, [], ◌∷◌, length, get_or, take, drop, map, IsUtf8, refl, sym, ap, ◌∙◌, arith}
 use Rattle.std.specs.Prelude.{nat_le}
 use Rattle.unicode_segmentation.specs.Grapheme.{graphemes}
@@ -60,7 +60,7 @@ drop_mapped f zero xs = refl
 drop_mapped f (suc n) [] = refl
 drop_mapped f (suc n) (x ∷ xs) = drop_mapped f n xs
 
--- the clusters of what follows some clusters
+-- the clusters of the text after its first n clusters
 pub clusters_left : (n : ℕ) (text left : List ℕ) → IsUtf8 text → left ≡ text_after n text → clusters left ≡ drop n (clusters text)
 clusters_left n text left u e =
     ap clusters e ∙ ap (map read_cluster) (clusters_after n text u) ∙ drop_mapped read_cluster n (graphemes true text)

@@ -32,7 +32,7 @@ next_last i c h = ap (λ t. visible_from i ((if t then blank c.attributes else N
 pub rejoined : (i : ℕ) (cells : List CellContent) → row_of_visible (visible_from i (row_of_cells cells)) ≡ row_of_cells cells
 rejoined i cells = row_again i (row_of_cells cells) (whole_cells cells)
 
--- two rows are the same where their visible cells have the same contents
+-- two whole rows are equal where their visible cells have the same contents
 row_of_contents : (cells : List VisibleCell) → flat_map cell_columns (contents cells) ≡ row_of_visible cells
 row_of_contents [] = refl
 row_of_contents (v ∷ cells) = ap (λ (r : Row). cell_columns v.cell ++ r) (row_of_contents cells)

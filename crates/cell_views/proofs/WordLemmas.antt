@@ -40,7 +40,7 @@ module _ (test : List ℕ → Bool) where
   prefix_none : (v : VisibleCell) (cells : List VisibleCell) → test v.cell.text ≡ false → prefix_words test (v ∷ cells) ≡ []
   prefix_none v cells e = take_while-cons (λ v. test v.cell.text) v cells ∙ ap (λ b. cond b (v ∷ prefix_words test cells) []) e
 
-  -- the end of the words, from what it is so far
+  -- the end of the words among these cells, where `now` is the end so far
   abbrev pub end_from : ℕ → ℕ → List VisibleCell → ℕ
   end_from at now cells = fold (λ _ v. v.column + 1) now (prefix_words test (filter (λ v. nat_le at v.column) cells))
 
@@ -166,7 +166,7 @@ module _ (test : List ℕ → Bool) where
       → column ≡ word_start test at cells
   begun_ends at column start left cells l c e = c ∙ ap (λ o. unwrap_or o at) (sym (ap (begun_from at start) l) ∙ e) ∙ begun_back at (filter (λ v. nat_le v.column at) cells)
 
--- what a closure answered is what the test gives
+-- a closure's answer is the result of the test
 pub answered : {F : Type 0} (g : Shared F (Bor (List ℕ) × Unit {0}) Bool) (f : F) (test : List ℕ → Bool) (text : Bor (List ℕ)) (bytes : List ℕ) (answer b : Bool)
     → Answers g f test → IsUtf8 text.now → g.post f (text, tt) answer → text.now ≡ bytes → answer ≡ b → test bytes ≡ b
 answered g f test text bytes answer b answers valid given is e = ap test (sym is) ∙ sym (answers text.now answer valid (says_at g given refl)) ∙ e

@@ -4,7 +4,7 @@ use Rattle.std.proofs.lemmas.List.Sums.{fold-append}
 use Rattle.screen_change.specs.ChangeValue.{ChangeValue}
 use Rattle.change_sequence.specs.Sequence.{HasSome, Sequence, with_change, with_changes}
 
--- so many were added, and the others are left
+-- the first `count` changes were added, and the rest is left
 pub record HasAdded {W : Type 0} (width_of : List ℕ → ℕ) (before now : Sequence W) (all left : List ChangeValue) : Type 0 where
   pub count : ℕ
   pub added : now ≡ with_changes width_of before (take count all)

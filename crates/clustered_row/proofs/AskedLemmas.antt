@@ -1,4 +1,4 @@
--- What is asked of a row's columns, from its faces and attributes and from the blanks after these.
+-- Queries of a row's columns, answered from its faces and attributes and from the blanks after these.
 use Rattle.std.proofs.Common.{◌≡◌, ℕ, zero, suc, ◌+◌, ◌-◌, ◌<◌, ◌≤◌, Bool, true, false, List, [], ◌∷◌, ◌++◌, length, drop, replicate, get_or, Option, Some, None, refl, sym, ap, ◌∙◌, append-nil, length-append, arith}
 use Rattle.std.specs.Prelude.{find, fold, is_some, not, ◌==◌, if◌then◌else◌}
 use Rattle.std.proofs.lemmas.Bool.{ne_eqb, eq-eqb}
@@ -118,7 +118,7 @@ find_at (LeftHalf text a ∷ row) from (suc n) at e =
     miss (visible_at from text 2 a) (visible_from (from + 1) row) at (λ f. absurd (omega (arith, e, f))) ∙ find_at row (from + 1) n at (omega (arith, e))
 find_at (RightHalf a ∷ row) from (suc n) at e = find_at row (from + 1) n at (omega (arith, e))
 
--- what begins at a column is what the row begins with from there on
+-- the cell that begins at a column is the first cell of the row from there on
 pub cell_at-first : (row : Row) (at : ℕ) → cell_at at row ≡ first_at at (drop at row)
 cell_at-first row at = find_at row 0 at at (omega arith)
 
@@ -203,7 +203,7 @@ copy_at zero k x d h = absurd (omega arith)
 copy_at (suc n) zero x d h = refl
 copy_at (suc n) (suc k) x d h = copy_at n k x d (omega arith)
 
--- that of the blanks after what was written
+-- whether the row's last cell is wrapped: the flag of the blanks after the written columns
 pub blank_wrapped : (xs : Row) (n : ℕ) (a : Attributes) → IsWhole xs → 0 < n → a.wrapped ≡ ends_wrapped (visible_cells (xs ++ replicate n (blank a)))
 blank_wrapped xs n a w h =
     let blanks = replicate n (blank a) in
@@ -213,7 +213,7 @@ blank_wrapped xs n a w h =
     ap (λ (c : Column). (column_attributes c).wrapped) (sym last)
     ∙ last_wrapped (xs ++ blanks) (length xs + (n - 1)) 0 false (blank a) (whole-append xs blanks w (whole-blanks n a)) (omega (arith, count, many, h))
 
--- that of the last column that was written
+-- without blanks, the flag of the last written column
 pub column_wrapped : (xs : Row) (n : ℕ) (a x : Attributes) (k : ℕ) → IsWhole xs → n ≡ 0 → length xs ≡ k + 1 → x ≡ column_attributes (get_or xs k (blank x))
     → x.wrapped ≡ ends_wrapped (visible_cells (xs ++ replicate n (blank a)))
 column_wrapped xs n a x k w none h e =

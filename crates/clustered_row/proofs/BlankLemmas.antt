@@ -28,7 +28,7 @@ drop-replicate zero n x = let all : n ≡ n - 0 = omega arith in ap (λ m. repli
 drop-replicate (suc m) zero x = let none : 0 ≡ 0 - suc m = omega arith in ap (λ k. replicate k x) none
 drop-replicate (suc m) (suc n) x = let less : n - m ≡ suc n - suc m = omega arith in drop-replicate m n x ∙ ap (λ k. replicate k x) less
 
--- columns set on what stands before the blanks
+-- columns set within the columns before the blanks
 pub set_before : (row columns : Row) (at n : ℕ) (a : Attributes) → at + length columns ≤ length row
     → set_columns (row ++ replicate n (blank a)) at columns ≡ set_columns row at columns ++ replicate n (blank a)
 set_before row columns at n a h =
@@ -37,7 +37,7 @@ set_before row columns at n a h =
     (λ i. closed_end (prefix i) ++ columns ++ (ap closed_start rest ∙ closed_start-append (drop (at + length columns) row) n a) i)
     ∙ sym (append_assoc (closed_end (take at row) ++ columns) (closed_start (drop (at + length columns) row)) (replicate n (blank a)))
 
--- columns set over the end of what stands before the blanks
+-- columns set over the end of the columns before the blanks
 pub set_over : (row columns : Row) (at n : ℕ) (a : Attributes) → at ≤ length row → length row ≤ at + length columns → at + length columns ≤ length row + n
     → set_columns (row ++ replicate n (blank a)) at columns ≡ closed_end (take at row) ++ columns ++ replicate (length row + n - (at + length columns)) (blank a)
 set_over row columns at n a o h w =

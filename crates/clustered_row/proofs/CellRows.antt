@@ -150,7 +150,7 @@ row_of_lent (LeftHalf t a ∷ LeftHalf u b ∷ row) p = absurd p
 row_of_lent (LeftHalf t a ∷ RightHalf b ∷ row) p =
     row_wide (record { text = t; width = 2; attributes = a }) (blank_cell b) (lent_cells row) refl ∙ (λ j. LeftHalf t a ∷ RightHalf (sym p.0 j) ∷ row_of_lent row p.1 j)
 
--- what was written is whole, and so are blanks
+-- whole columns with blanks after them are a whole row
 pub whole_shown : (columns : Row) (n : ℕ) (rest : Attributes) (row : Row) → IsWhole columns → columns ++ replicate n (blank rest) ≡ row → IsWhole row
 whole_shown columns n rest row w e = subst IsWhole e (whole-append columns (replicate n (blank rest)) w (whole-blanks n rest))
 

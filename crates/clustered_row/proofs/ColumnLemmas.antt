@@ -16,7 +16,7 @@ use Rattle.clustered_row.proofs.SizeLemmas.{plain_sizes, plain_sums}
 use Rattle.clustered_row.proofs.FaceLemmas.{length-closed_end, length-closed_start}
 use Rattle.clustered_row.proofs.RowLemmas.{length-row_of, row_of-append, row_of-replicate, row_of-take, row_of-closed_end, row_of-set}
 
--- what a change leaves: faces with ats many attributes, which are this row; it is whole
+-- the result of a change: as many attributes as faces, which make up this row; the row is whole
 pub record Makes (fs : List Face) (ats : List Attributes) (row : Row) : Type 0 where
   pub even : length ats ≡ length fs
   pub whole : IsWhole (row_of fs ats)
@@ -58,7 +58,7 @@ module _ (fs now : List Face) (ats bs : List Attributes) (even : length ats ≡ 
       ((λ i. row_of (e i) (f i)) ∙ sym (row_of-closed_end (take at fs) (take at ats) (omega (arith, even, length-take at fs, length-take at ats))) ∙ ap rows.closed_end (sym (row_of-take at fs ats)))
       (whole-prefix at (row_of fs ats) whole)
 
-  -- others after
+  -- faces appended after these
   pub push_makes : (gs : List Face) (n : ℕ) (a : Attributes) → now ≡ fs ++ gs → bs ≡ ats ++ replicate n a → n ≡ length gs → IsWhole (row_of gs (replicate n a)) → Makes now bs (row_of fs ats ++ row_of gs (replicate n a))
   push_makes gs n a e f count w =
       made now bs (row_of fs ats ++ row_of gs (replicate n a)) (omega (arith, even, count, ap length e, ap length f, length-append fs gs, length-append ats (replicate n a), length-replicate n a))
@@ -73,7 +73,7 @@ module _ (fs now : List Face) (ats bs : List Attributes) (even : length ats ≡ 
       let m = push_makes (replicate n (Own space)) n a spaces f (sym (length-replicate n (Own space))) (subst IsWhole (sym blanks) (whole-blanks n a)) in
       subst (Makes now bs) (ap (λ (r : Row). row_of fs ats ++ r) (blanks ∙ ap (λ k. replicate k (blank a)) (omega (arith, even, count, long)))) m
 
-  -- others in their place
+  -- faces set over some of these
   pub set_makes : (gs : List Face) (at end n : ℕ) (a : Attributes) → now ≡ set_faces fs at gs → bs ≡ take at ats ++ replicate (end - at) a ++ drop end ats → at + n ≡ end → n ≡ length gs → at + n ≤ length fs → IsWhole (row_of gs (replicate n a))
       → Makes now bs (set_columns (row_of fs ats) at (row_of gs (replicate n a)))
   set_makes gs at end n a e g on count fits w =

@@ -1,4 +1,4 @@
--- Columns at the end in which rows are the same.
+-- The columns at the end in which two rows are equal.
 use Rattle.std.proofs.Common.{◌≡◌, ℕ, ◌+◌, ◌-◌, ◌<◌, ◌≤◌, false, List, ◌∷◌, ◌++◌, length, take, drop, replicate, slice_index_or, refl, sym, ap, ◌∙◌, arith}
 use Rattle.std.proofs.lemmas.List.{drop-drop, drop_all, drop_more, take_all}
 use Rattle.cell_base.specs.Attributes.{Attributes}
@@ -15,7 +15,7 @@ use Rattle.clustered_row.proofs.RowLemmas.{row_of-drop}
 use Rattle.clustered_row.proofs.RunLists.{after_prefix, cut_run, drop_next, length_next, length_parts}
 use Rattle.clustered_row.proofs.StepLemmas.{IsSized, column_count, fits}
 
--- fewer at the end are the same too
+-- lists that are equal in their last m items are equal in their last n, where n ≤ m
 pub fewer_after : {X : Type 0} (xs ys : List X) (n m : ℕ) → n ≤ m → m ≤ length xs → m ≤ length ys → drop (length xs - m) xs ≡ drop (length ys - m) ys → drop (length xs - n) xs ≡ drop (length ys - n) ys
 fewer_after xs ys n m h p q e =
     let one : length xs - n ≡ length xs - m + (m - n) = omega (arith, h, p) in
@@ -29,14 +29,14 @@ from_next xs n x h e =
     let next : length xs - 1 - n + 1 ≡ length xs - n = omega (arith, h) in
     ap (λ k. drop k xs) here ∙ drop_more xs (length xs - 1 - n) x (omega (arith, h)) ∙ (λ i. sym e i ∷ drop (next i) xs)
 
--- one more at the end is the same too
+-- lists that are equal in their last n items, and in the item before those, are equal in their last n + 1
 pub next_after : {X : Type 0} (xs ys : List X) (n : ℕ) (x y : X) → n < length xs → n < length ys → x ≡ slice_index_or xs (length xs - 1 - n) x → y ≡ slice_index_or ys (length ys - 1 - n) y → x ≡ y
     → drop (length xs - n) xs ≡ drop (length ys - n) ys → drop (length xs - (n + 1)) xs ≡ drop (length ys - (n + 1)) ys
 next_after xs ys n x y h g e f s r = from_next xs n x h e ∙ (λ i. s i ∷ r i) ∙ sym (from_next ys n y g f)
 
 -- ---- runs
 
--- whole runs at the end, and so many columns of the one before them
+-- whole runs at the end, and the last k columns of the run before them
 run_columns_after : (xs : List Run) (i : ℕ) (run : Run) (k n : ℕ) → i < length xs → run ≡ slice_index_or xs i run → k ≤ run.count → n ≡ length (spread (drop (i + 1) xs))
     → drop (length (spread xs) - (n + k)) (spread xs) ≡ replicate k run.attributes ++ spread (drop (i + 1) xs)
 run_columns_after xs i run k n h e f c =
@@ -50,7 +50,7 @@ run_columns_after xs i run k n h e f c =
     ∙ cut_run run (drop (i + 1) xs) (run.count - k) (omega arith)
     ∙ ap (λ m. replicate m run.attributes ++ spread (drop (i + 1) xs)) count
 
--- the place of a run that is found from the end
+-- the index after that of a run that is counted from the end
 next_position : (xs : List Run) (m : ℕ) → m < length xs → length xs - 1 - m + 1 ≡ length xs - m
 next_position xs m h = omega (arith, h)
 

@@ -1,4 +1,4 @@
--- Columns in which rows are the same.
+-- The columns in which two rows are equal.
 use Rattle.std.proofs.Common.{◌≡◌, ℕ, zero, suc, ◌+◌, ◌-◌, ◌<◌, ◌≤◌, Bool, true, false, List, [], ◌∷◌, ◌++◌, length, take, drop, replicate, slice_index_or, refl, sym, ap, ◌∙◌, inl, inr, arith}
 use Rattle.std.proofs.lemmas.Bool.{cases_lt}
 use Rattle.std.proofs.lemmas.List.{drop_all, drop-append-le, take-take, take-append-le, length-replicate, length-append}
@@ -25,13 +25,13 @@ use Rattle.clustered_row.proofs.RunLists.{around, cut_prefix, length_next, lengt
 use Rattle.clustered_row.proofs.ShownLemmas.{shown}
 use Rattle.clustered_row.proofs.StepLemmas.{fits, sized_of}
 
--- fewer at the start are the same too
+-- lists that are equal in their first n items are equal in their first i, where i ≤ n
 pub fewer : {X : Type 0} (xs ys : List X) (i n : ℕ) → i ≤ n → take n xs ≡ take n ys → take i xs ≡ take i ys
 fewer xs ys i n h e = sym (take-take i n xs h) ∙ ap (take i) e ∙ take-take i n ys h
 
 -- ---- runs
 
--- whole runs, and so many columns of the next one
+-- whole runs, and the first k columns of the next one
 run_columns : (xs : List Run) (i : ℕ) (run : Run) (k : ℕ) → i < length xs → run ≡ slice_index_or xs i run → k ≤ run.count
     → take (length (spread (take i xs)) + k) (spread xs) ≡ spread (take i xs) ++ replicate k run.attributes
 run_columns xs i run k h e f =
@@ -70,7 +70,7 @@ same_runs_prefix xs ys i n s c =
 pub same_position : (s v : List CellSize) (p : Position) → IsPosition s p → p.index ≤ length v → take p.index s ≡ take p.index v → IsPosition v p
 same_position s v p k h e = record { within = h; bytes = k.bytes ∙ ap bytes_of e; columns = k.columns ∙ ap columns_of e }
 
--- so many plain cells after a position that follows all sizes
+-- n plain cells after a position that follows all sizes
 pub plain_position : (t : List ℕ) (s : List CellSize) (p q : Position) (n : ℕ) → IsPosition s p → length s ≤ p.index → q.index ≡ p.index → q.bytes ≡ p.bytes + n → q.columns ≡ p.columns + n → q.bytes ≤ length t → IsBefore t s q
 plain_position t s p q n k past i b c w =
     let same : take q.index s ≡ take p.index s = ap (λ m. take m s) i in
@@ -103,7 +103,7 @@ starts_faces t (z ∷ s) = starts_cell z.is_wide (take z.len t) (faces_of (drop 
 pub whole_position : (t : List ℕ) (s : List CellSize) (p : Position) → IsText t s → IsBefore t s p → starts_right (drop p.columns (faces_of t s)) ≡ false
 whole_position t s p h k = ap starts_right (parted_before t s p h k).rest ∙ starts_faces (drop p.bytes t) (drop p.index s)
 
--- texts that are the same up to a position show the same before it
+-- texts that are equal up to a position show equal faces before it
 pub same_faces : (t u : List ℕ) (s v : List CellSize) (p : Position) → IsText t s → IsText u v → IsBefore t s p → IsBefore u v p → take p.bytes t ≡ take p.bytes u → take p.index s ≡ take p.index v
     → take p.columns (faces_of t s) ≡ take p.columns (faces_of u v)
 same_faces t u s v p h g a b e f = (parted_before t s p h a).prefix ∙ (λ i. faces_of (e i) (f i)) ∙ sym (parted_before u v p g b).prefix
@@ -146,7 +146,7 @@ module _ (c d : Row) (n m w v : ℕ) (a b : Attributes) (whole : IsWhole c) (oth
         other_last = whole_at m (shown d v b) other_all_whole (split_after d (v - length d) m b q);
       }
 
-  -- the last columns that were written are the same, and so are the blanks after them
+  -- the written columns are equal from m on, and so are the blanks after them
   pub around_parts : n ≤ m → n ≤ length d → take n c ≡ take n d → is_split n c ≡ false → is_split n d ≡ false → m ≤ length c → length c ≡ length d → drop m c ≡ drop m d
       → is_split m c ≡ false → is_split m d ≡ false → w ≡ v → a ≡ b → AreEqualAround n m (shown c w a) (shown d v b)
   around_parts i j e h k p q back f g x y =

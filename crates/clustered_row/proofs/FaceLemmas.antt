@@ -102,7 +102,7 @@ drop-opened_before a j fs h =
     let n : length prefix ≡ a = length-closed_end (take a fs) ∙ length-take-le a fs h in
     ap (λ m. drop (m + suc j) (prefix ++ after)) (sym n) ∙ drop-append-add prefix after (suc j) ∙ drop-closed_start j (drop a fs) ∙ drop-drop (suc j) a fs
 
--- ---- others in between
+-- ---- new faces in between
 
 spliced_there : (fs new : List Face) (a : ℕ) → a ≤ length fs
     → take a (opened a (opened a fs)) ++ (new ++ drop a (opened a (opened a fs))) ≡ closed_end (take a fs) ++ new ++ closed_start (drop a fs)
@@ -143,7 +143,7 @@ spliced_by fs new a b e h (inr (inl less)) =
     ∙ ap (λ n. closed_end (take a fs) ++ new ++ closed_start (drop n fs)) (sym is ∙ sym e)
 spliced_by fs new a b e h (inr (inr more)) = absurd (omega arith)
 
--- others between two columns at which the faces were cut
+-- new faces between two columns at which the faces were cut
 pub spliced : (fs new : List Face) (a b : ℕ) → a + length new ≡ b → b ≤ length fs
     → take a (opened b (opened a fs)) ++ (new ++ drop b (opened b (opened a fs))) ≡ set_faces fs a new
 spliced fs new a b e h = spliced_by fs new a b e h (cases_order a b)

@@ -24,9 +24,9 @@ use Rattle.clustered_row.proofs.LeftLemmas.{rest_of, run_has, some_run}
 -- ---- texts
 
 -- each cell has a byte at least
-pub sizes_few : (sizes : List CellSize) → length sizes ≤ bytes_of sizes
-sizes_few [] = omega arith
-sizes_few (s ∷ sizes) = let some = s.some in omega (arith, some, sizes_few sizes)
+pub sizes_bound : (sizes : List CellSize) → length sizes ≤ bytes_of sizes
+sizes_bound [] = omega arith
+sizes_bound (s ∷ sizes) = let some = s.some in omega (arith, some, sizes_bound sizes)
 
 first_plain : (s : CellSize) (sizes : List CellSize) → is_plain s ≡ true → prefix_len is_plain (s ∷ sizes) ≡ suc (prefix_len is_plain sizes)
 first_plain s sizes e = ap (λ t. cond t (1 + prefix_len is_plain sizes) 0) e ∙ omega arith
@@ -61,7 +61,7 @@ plain_all m most n sizes e h k = within m most n sizes e (all_of (take m sizes) 
         let parts = and_parts (is_plain s) (list_all is_plain (take m sizes)) h in
         and_from (is_plain s) (list_all is_plain (take n sizes)) parts.0 (within m (most - 1) n sizes (omega (arith, e, k)) parts.1 (omega (arith, k)))
 
--- a text and sizes of which some cells were passed: the text of these, and what is left
+-- plain cells at the start of a text were passed: their text, and the text and the sizes that remain
 pub record Passes (text : List ℕ) (sizes : List CellSize) (prefix left : List ℕ) (rest : List CellSize) : Type 0 where
   pub faces : faces_of text sizes ≡ plain_faces prefix ++ faces_of left rest
   pub bytes : bytes_of rest ≤ length left
@@ -73,10 +73,10 @@ passes_bytes n text c =
     let none = drop-nil {A = CellSize} n in
     let whole = take-append-drop n text in
     let parts = and_parts (list_all is_printable (take n text)) (list_all is_printable (drop n text)) (sym (list_all-append is_printable (take n text) (drop n text)) ∙ ap (list_all is_printable) whole ∙ c) in
-    let few : bytes_of (drop n []) ≡ 0 = ap bytes_of none in
+    let no_bytes : bytes_of (drop n []) ≡ 0 = ap bytes_of none in
     record {
       faces = ap plain_faces (sym whole) ∙ map-append (λ byte. Own (byte ∷ [])) (take n text) (drop n text) ∙ ap (λ (sizes : List CellSize). plain_faces (take n text) ++ faces_of (drop n text) sizes) (sym none);
-      bytes = omega (arith, few);
+      bytes = omega (arith, no_bytes);
       parts = ap (is_cut (drop n text)) none ∙ parts.1;
       printable = parts.0;
     }

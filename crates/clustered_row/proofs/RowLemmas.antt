@@ -1,4 +1,4 @@
--- Rows of faces with attributes: what is done to the faces, and to the attributes, is done to the row.
+-- Rows of faces with attributes: an operation on the faces and on the attributes is the operation on the row.
 use Rattle.std.proofs.Common.{◌≡◌, ℕ, zero, suc, ◌+◌, List, [], ◌∷◌, ◌++◌, length, take, drop, replicate, refl, sym, ap, ◌∙◌, arith, length-append}
 use Rattle.std.proofs.lemmas.List.{length-take}
 use Rattle.cell_base.specs.Attributes.{Attributes}

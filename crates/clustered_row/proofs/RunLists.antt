@@ -1,4 +1,4 @@
--- Columns of lists of runs, and what keeps runs as long as they can be.
+-- Columns of lists of runs, and the changes that keep runs maximal.
 use Rattle.std.proofs.Common.{zero, suc, arith, ap, refl, sym, ◌∙◌, ◌≡◌, ◌<◌, ◌≤◌, [], ◌∷◌, ◌++◌, ℕ, ◌+◌, ◌-◌, length, List, slice_index_or, take, drop}
 use Rattle.std.proofs.lemmas.List.{append-nil, take-append-le, take-replicate, drop-replicate, drop-append-le, length-replicate, length-append, take-append-drop, take_at, drop_more, take_more}
 use Rattle.std.proofs.lemmas.List.Concat.{flat_map-append}
@@ -43,7 +43,7 @@ length_next xs i run within is =
 pub whole_prefix : (xs : List Run) (i : ℕ) → take (length (spread (take i xs))) (spread xs) ≡ spread (take i xs)
 whole_prefix xs i = ap (λ ys. take (length (spread (take i xs))) ys) (spread_parts xs i) ∙ take_at (spread (take i xs)) (spread (drop i xs)) (length (spread (take i xs))) refl
 
--- the columns so many after whole runs
+-- the columns from offset k after the first i runs on
 pub after_prefix : (xs : List Run) (i k : ℕ) → drop (length (spread (take i xs)) + k) (spread xs) ≡ drop k (spread (drop i xs))
 after_prefix xs i k =
     ap (λ ys. drop (length (spread (take i xs)) + k) ys) (spread_parts xs i) ∙ drop-append-add (spread (take i xs)) (spread (drop i xs)) k
@@ -53,13 +53,13 @@ within_run k run fits =
     let e : length (columns_of run) ≡ run.count = length_columns run in
     omega arith
 
--- whole runs and so many columns of the next one
+-- whole runs and the first k columns of the next one
 pub cut_prefix : (before : List Run) (run : Run) (after : List Run) (k : ℕ) → k ≤ run.count → take (length (spread before) + k) (spread (before ++ run ∷ after)) ≡ spread (before ++ counted run k ∷ [])
 cut_prefix before run after k fits =
     ap (λ xs. take (length (spread before) + k) xs) (spread-append before (run ∷ after)) ∙ take-append-add (spread before) (columns_of run ++ spread after) k ∙
     ap (λ xs. spread before ++ xs) (take-append-le k (columns_of run) (spread after) (within_run k run fits) ∙ take-replicate k run.count run.attributes fits) ∙ sym (spread_last before (counted run k))
 
--- what is left of a run, and the runs after it
+-- the rest of a run after its first k columns, and the runs after it
 pub cut_run : (run : Run) (after : List Run) (k : ℕ) → k ≤ run.count → drop k (spread (run ∷ after)) ≡ spread (counted run (run.count - k) ∷ after)
 cut_run run after k fits =
     drop-append-le k (columns_of run) (spread after) (within_run k run fits) ∙ ap (λ xs. xs ++ spread after) (drop-replicate k run.count run.attributes)

@@ -108,7 +108,7 @@ shorter_columns xs n by last long is less =
 
 -- Between two positions
 
--- one run holds so many columns after so many of its own
+-- n columns of one run, from its offset l on, have the run's attributes
 pub held : (xs : List Run) (i l n : ℕ) (run : Run) → i < length xs → run ≡ slice_index_or xs i run → l + n ≤ run.count → spread xs ≡ take (length (spread (take i xs)) + l) (spread xs) ++ replicate n run.attributes ++ drop (length (spread (take i xs)) + (l + n)) (spread xs)
 held xs i l n run within is fits =
     let at = length (spread (take i xs)) in
@@ -182,7 +182,7 @@ parted_run xs from to run here there less some within is h =
 pub length_first : (run : Run) (after : List Run) → length (spread (run ∷ after)) ≡ run.count + length (spread after)
 length_first run after = length-append (columns_of run) (spread after) ∙ ap (λ n. n + length (spread after)) (length_columns run)
 
--- what is left of a run, after so many of its columns
+-- the rest of a run after its first k columns, and the runs after it
 pub rest_columns : (xs : List Run) (i k : ℕ) (run : Run) → i < length xs → run ≡ slice_index_or xs i run → k ≤ run.count → spread (counted run (run.count - k) ∷ drop (i + 1) xs) ≡ drop k (spread (drop i xs))
 rest_columns xs i k run within is fits =
     sym (cut_run run (drop (i + 1) xs) k fits) ∙ ap (λ ys. drop k (spread ys)) (sym (drop_next xs i run within is))
@@ -201,7 +201,7 @@ two_prefix : (xs : List Run) (i k : ℕ) (run : Run) → i < length xs → take 
 two_prefix xs i k run within =
     let prefix = take (i + 1) xs in
     let all = prefix ++ counted run (run.count - k) ∷ drop (i + 1) xs in
-    let few : length prefix ≡ i + 1 = length-take-le (i + 1) xs (omega arith) in
+    let taken : length prefix ≡ i + 1 = length-take-le (i + 1) xs (omega arith) in
     let long = length-append prefix (counted run (run.count - k) ∷ drop (i + 1) xs) in
     take_more_set all i (counted run k) (omega arith) ∙ ap (λ ys. ys ++ counted run k ∷ []) (take-append-le i prefix (counted run (run.count - k) ∷ drop (i + 1) xs) (omega arith) ∙ take-take i (i + 1) xs (omega arith))
 
@@ -224,10 +224,10 @@ two_second xs i k run d within =
     let e : counted run (run.count - k) ∷ drop (i + 1) xs ≡ slice_index_or (in_two xs i run k) (i + 1) d ∷ drop (i + 1 + 1) (in_two xs i run k) = sym (two_after xs i k run within) ∙ drop_more (in_two xs i run k) (i + 1) d (omega arith) in
     cc
 
--- what stands before the second part of a run
+-- with the second part of a split run after it, the run keeps its index
 pub two_first : (xs : List Run) (i : ℕ) (rest d : Run) → i < length xs → slice_index_or (take (i + 1) xs ++ rest ∷ drop (i + 1) xs) i d ≡ slice_index_or xs i d
 two_first xs i rest d within =
-    let few : length (take (i + 1) xs) ≡ i + 1 = length-take-le (i + 1) xs (omega arith) in
+    let taken : length (take (i + 1) xs) ≡ i + 1 = length-take-le (i + 1) xs (omega arith) in
     get_or_append_left (take (i + 1) xs) (rest ∷ drop (i + 1) xs) d i (omega arith) ∙ get_or-take (i + 1) xs i d (omega arith)
 
 -- the columns before a position within the run that holds the other position too
@@ -283,7 +283,7 @@ moved_after xs old from to k d less within left =
     let next : to + (k + 1) ≡ j + 1 = omega arith in
     ap (λ n. drop n (swap xs i j)) next ∙ ap (λ ys. drop (j + 1) ys) (sym (swap_is xs i j d (omega arith) within)) ∙ drop-set-lt (j + 1) (slice_set xs i y) j z (omega arith) ∙ drop-set-lt (j + 1) xs i y (omega arith) ∙ drop_more_same xs old j left ∙ ap (λ n. drop n old) (sym next)
 
--- A run between others
+-- A run between other runs
 
 pub put_columns : (xs : List Run) (kept from at to : ℕ) (run first second : Run) → spread (take from xs) ++ columns_of first ≡ spread (take kept xs) ++ columns_of run → columns_of second ++ spread (drop to xs) ≡ columns_of first ++ spread (drop at xs) → spread (take from xs ++ second ∷ drop to xs) ≡ spread (take kept xs) ++ columns_of run ++ spread (drop at xs)
 put_columns xs kept from at to run first second p q =
@@ -330,7 +330,7 @@ take_some zero n part a e = ap (λ m. replicate m a) (let f : 0 ≡ part = omega
 take_some (suc count) zero part a e = ap (λ m. replicate m a) (let f : 0 ≡ part = omega (arith, e) in f)
 take_some (suc count) (suc n) part a e = ap (λ ys. a ∷ ys) (take_some count n (part - 1) a (omega (arith, e))) ∙ ap (λ m. replicate m a) (let f : suc (part - 1) ≡ part = omega (arith, e) in f)
 
--- so many columns of a run and of those after it, less those that are skipped
+-- `count` columns of a run and of those after it, from offset `skip` on: first those of the run, then those of the runs after it
 pub next_part : (run : Run) (after : List Run) (skip count skipped part : ℕ) → skipped ≡ min skip run.count → part ≡ min count (run.count - skipped) → take count (drop skip (spread (run ∷ after))) ≡ replicate part run.attributes ++ take (count - part) (drop (skip - skipped) (spread after))
 next_part run after skip count skipped part e f =
     let c = run.count in

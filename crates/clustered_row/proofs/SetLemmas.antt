@@ -113,7 +113,7 @@ byte_low : (b : ℕ) (cs : List ℕ) → encode_utf8_all cs ≡ b ∷ [] → nat
 byte_low b [] e = absurd cc
 byte_low b (c ∷ cs) e = first_low c b (encode_utf8_all cs) e
 
--- a text of one byte that stands in a cell as it is, is printable
+-- a text of one byte that a cell holds unchanged is printable
 one_printable : (text : List ℕ) → length text ≡ 1 → IsUtf8 text → shows_as_space text ≡ false → list_all is_printable text ≡ true
 one_printable [] l u k = absurd (omega (arith, l))
 one_printable (b ∷ []) l u k = ap (λ t. t && true) (kept_printable b (byte_low b u.0 u.1.1) k)
@@ -220,7 +220,7 @@ spaces_ascii (suc n) = IsAscii-cons 32 (replicate n 32) (omega arith) (spaces_as
 pub spaces_cut : (n : ℕ) → n ≤ 64 → IsCharBoundary (replicate 64 32) n
 spaces_cut n h = IsCharBoundary-from_ascii (replicate 64 32) n (spaces_ascii 64) h
 
--- the cell of a text of two columns takes one where a space stands in its place
+-- the cell of a text of two columns takes one column exactly where a space replaces the text
 pub two_or_space : (text : List ℕ) → ((if shows_as_space text then 1 else max 1 2) == 1) ≡ shows_as_space text
 two_or_space text = by_cases (shows_as_space text)
   where
@@ -231,7 +231,7 @@ two_or_space text = by_cases (shows_as_space text)
 -- ---- the start of a walk
 
 module _ (f : List ℕ → ℕ) (room : ℕ) (text : List ℕ) (sizes : List CellSize) (n : ℕ) (rest : List ℕ) (w : IsWalked f room text sizes n rest) where
-  -- what the cells are cut from
+  -- the part of the text that the cells are cut from
   pub walk_prefix : take (length text - length rest) text ≡ w.prefix
   walk_prefix =
       let whole = w.whole in

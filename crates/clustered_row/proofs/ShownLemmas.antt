@@ -1,4 +1,4 @@
--- What a row shows of the columns that were written, and of the blanks after them.
+-- The row that is shown by the written columns and the blanks after them.
 use Rattle.std.proofs.Common.{◌≡◌, ℕ, suc, ◌+◌, ◌-◌, ◌≤◌, ◌<◌, List, [], ◌++◌, length, take, replicate, refl, sym, ap, subst, ◌∙◌, append_assoc, append-nil, length-append, arith, inl, inr}
 use Rattle.std.specs.Prelude.{if◌then◌else◌}
 use Rattle.std.proofs.lemmas.Bool.Decides.{leb_tells}
@@ -23,7 +23,7 @@ length-shown columns width rest h = omega (arith, h, length-append columns (repl
 pub same_length : (new columns : Row) (width : ℕ) (r s : Attributes) (row : Row) → length new ≤ width → length columns ≤ width → shown columns width s ≡ row → length (shown new width r) ≡ length row
 same_length new columns width r s row h k e = length-shown new width r h ∙ sym (length-shown columns width s k) ∙ ap length e
 
--- what a change leaves: columns that are not too many, with which the row shows this
+-- the result of a change: at most `width` columns, which with the blanks after them show this row
 pub record Shows (columns : Row) (width : ℕ) (rest : Attributes) (row : Row) : Type 0 where
   pub within : length columns ≤ width
   pub is : shown columns width rest ≡ row
@@ -38,7 +38,7 @@ module _ (columns : Row) (width : ℕ) (rest : Attributes) (most : length column
         is = (λ i. e i ++ replicate (width - same i) (blank rest)) ∙ sym (set_before columns g at (width - length columns) rest h);
       }
 
-  -- columns are set over the end of what was written
+  -- columns are set over the end of the written columns
   pub set_over_shows : (first new g : Row) (at : ℕ) → first ≡ closed_end (take at columns) → new ≡ first ++ g → at ≤ length columns → length columns ≤ at + length g → at + length g ≤ width
       → Shows new width rest (set_columns (shown columns width rest) at g)
   set_over_shows first new g at e f o h w =
@@ -51,7 +51,7 @@ module _ (columns : Row) (width : ℕ) (rest : Attributes) (most : length column
       }
 
   module _ (whole : IsWhole columns) where
-    -- columns are set after what was written, and after blanks that are written before them
+    -- columns are set after the written columns, with blanks written between them
     pub set_after_shows : (first new g : Row) (at : ℕ) → first ≡ columns ++ replicate (at - length columns) (blank rest) → new ≡ first ++ g → length columns ≤ at → at + length g ≤ width
         → Shows new width rest (set_columns (shown columns width rest) at g)
     set_after_shows first new g at e f o w =
@@ -130,7 +130,7 @@ module _ (columns : Row) (width : ℕ) (rest : Attributes) (most : length column
       (λ less. ap (λ n. new ++ replicate n (blank rest)) none ∙ append-nil new ∙ e ∙ ap closed_end (sym (take_within columns (replicate (width - length columns) (blank rest)) to (omega (arith, h)))))
       (λ more. absurd (omega (arith, more, long, h, most)))
 
-  -- blanks after what was written go
+  -- blanks after the written columns are dropped
   pub resize_less : (to : ℕ) → IsWhole columns → length columns ≤ to → to ≤ width → shown columns to rest ≡ resized to (shown columns width rest)
   resize_less to whole h w =
       let long = length-shown columns width rest most in
@@ -162,7 +162,7 @@ width_of_row columns width rest row h e = sym (length-shown columns width rest h
 
 -- ---- cells that are set
 
--- what a change leaves: columns with which the row is as wide, and has these in place of its own from one on
+-- the result of setting columns: the row keeps its width and has the columns `g` at `at`
 pub record Sets (new : Row) (width : ℕ) (rest : Attributes) (row : Row) (at : ℕ) (g : Row) : Type 0 where
   pub within : length new ≤ width
   pub len : length (shown new width rest) ≡ length row

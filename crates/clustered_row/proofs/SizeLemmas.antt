@@ -56,9 +56,9 @@ width_bounds true = (omega arith, omega arith)
 width_bounds false = (omega arith, omega arith)
 
 -- a cell has a byte at least, and two columns at most
-pub columns_few : (xs : List CellSize) → columns_of xs ≤ 2 * bytes_of xs
-columns_few [] = omega arith
-columns_few (s ∷ xs) = let some = s.some in let most = (width_bounds s.is_wide).1 in omega (arith, some, most, columns_few xs)
+pub columns_bound : (xs : List CellSize) → columns_of xs ≤ 2 * bytes_of xs
+columns_bound [] = omega arith
+columns_bound (s ∷ xs) = let some = s.some in let most = (width_bounds s.is_wide).1 in omega (arith, some, most, columns_bound xs)
 
 -- ---- texts side by side
 
@@ -216,7 +216,7 @@ IsUtf8-cut text (s ∷ sizes) h =
     subst IsUtf8 (take-append-drop s.len text)
     (IsUtf8-append (take s.len text) (drop s.len text) (IsUtf8-cell s (take s.len text) p.0) (IsUtf8-cut (drop s.len text) sizes p.1))
 
--- ---- texts that stand in cells as they are
+-- ---- texts that cells hold unchanged
 
 not_it : (b : Bool) → not b ≡ true → b ≡ false
 not_it true h = absurd cc

@@ -1,4 +1,4 @@
--- What a text that is cut shows after each change.
+-- The faces and columns of a text that is cut into cells, after each change.
 use Rattle.std.proofs.Common.{◌≡◌, ℕ, zero, suc, ◌+◌, ◌-◌, ◌<◌, ◌≤◌, Bool, true, false, List, [], ◌∷◌, ◌++◌, length, take, drop, replicate, get_or, refl, sym, ap, subst, ◌∙◌, arith, append_assoc, length-append, inl, inr, IsUtf8}
 use Rattle.std.specs.List.{list_all}
 use Rattle.std.specs.Prelude.{cond, ◌⊎◌}
@@ -15,7 +15,7 @@ use Rattle.clustered_row.specs.declared.position.Position.{Position}
 use Rattle.clustered_row.specs.Faces.{Own, Right, first_face, plain_faces, closed_end, opened, set_faces, padded}
 use Rattle.clustered_row.specs.Position.{IsPosition, IsSplit}
 use Rattle.clustered_row.specs.Sizes.{width_of, bytes_of, columns_of, is_plain, ends_plain, faces_of, is_cut}
-use Rattle.clustered_row.proofs.SizeLemmas.{bytes_of-append, columns_of-append, bytes_split, columns_split, bytes_next, columns_next, columns_few, columns_many, join, cut_join, width_bounds, IsUtf8-cut, length-faces, faces_more, cut_more, plain_sizes, plain_sums, plain_copies, ends_plain-push, second_column}
+use Rattle.clustered_row.proofs.SizeLemmas.{bytes_of-append, columns_of-append, bytes_split, columns_split, bytes_next, columns_next, columns_bound, columns_many, join, cut_join, width_bounds, IsUtf8-cut, length-faces, faces_more, cut_more, plain_sizes, plain_sums, plain_copies, ends_plain-push, second_column}
 use Rattle.clustered_row.proofs.TextLemmas.{Placed, IsAfter, replaced, replaced_cut, replaced_bytes, replaced_columns, split_cell_at, closed_at_position, closed_in_wide, cut_in_wide, cut_parts, opened_at_position, after_cut, after_stays_cut, after_set, after_set_cut, face_at_position, face_in_wide, cell_kept, cell_utf8}
 
 -- the sizes of the first cells of a text, with their sums
@@ -35,9 +35,9 @@ placed t s sb sc p h q = record { bytes = q.bytes; columns = q.columns; within =
 pub column_count : (t : List ℕ) (s : List CellSize) (sb sc n : ℕ) → IsSized t s sb sc → n ≡ length t → sc + (n - sb) ≡ length (faces_of t s)
 column_count t s sb sc n h e = let k = length-faces t s (fits t s sb sc h) in omega (arith, k)
 
--- they are few enough to be counted
+-- there are at most two columns per byte, so they can be counted
 pub columns_fit : (t : List ℕ) (s : List CellSize) (sb sc n : ℕ) → IsSized t s sb sc → n ≡ length t → sc + (n - sb) ≤ n + n
-columns_fit t s sb sc n h e = let k = columns_few s in omega (arith, k)
+columns_fit t s sb sc n h e = let k = columns_bound s in omega (arith, k)
 
 pub sized_same : (t u : List ℕ) (s v : List CellSize) (sb sc : ℕ) → u ≡ t → v ≡ s → IsSized t s sb sc → IsSized u v sb sc
 sized_same t u s v sb sc p q h = subst (λ x. IsSized x v sb sc) (sym p) (subst (λ x. IsSized t x sb sc) (sym q) h)
@@ -241,7 +241,7 @@ replaced_shown t u now s v sizes sb sc p q e k h a b bytes =
 
 -- ---- positions
 
--- the position after the cell that stands there
+-- the position after the cell at a position
 pub next_position : (s : List CellSize) (p q : Position) (d : CellSize) → IsPosition s p → p.index < length s
     → q.index ≡ p.index + 1 → q.bytes ≡ p.bytes + (get_or s p.index d).len → q.columns ≡ p.columns + width_of (get_or s p.index d).is_wide → IsPosition s q
 next_position s p q d a l i b c =
@@ -319,13 +319,13 @@ after_byte t s sb sc at h l k = let n = column_count t s sb sc (length t) h refl
 pub sized_columns_within : (t : List ℕ) (s : List CellSize) (sb sc : ℕ) → IsSized t s sb sc → sc ≤ length (faces_of t s)
 sized_columns_within t s sb sc h = let n = column_count t s sb sc (length t) h refl in omega (arith, n)
 
--- ---- what may be refused
+-- ---- changes that may be refused
 
 pub pushed_if : (ok : Bool) (t u now : List ℕ) (s : List CellSize) (sb sc : ℕ) → now ≡ cond ok (t ++ u) t → list_all is_printable u ≡ true → IsSized t s sb sc → IsSized now s sb sc
 pushed_if true t u now s sb sc e k h = pushed t u now s sb sc e k h
 pushed_if false t u now s sb sc e k h = sized_same t now s s sb sc e refl h
 
--- what `resize` leaves where it adds
+-- the list after a `resize` that adds items
 pub resized : {X : Type 0} (xs : List X) (x : X) (n len : ℕ) → len ≡ length xs → len ≤ n → take n xs ++ replicate (n - len) x ≡ xs ++ replicate (n - len) x
 resized {X} xs x n len e h = ap (λ (ys : List X). ys ++ replicate (n - len) x) (take_all n xs (omega arith))
 
@@ -335,7 +335,7 @@ ends_plain_at xs n s e h r =
     let all = take_all (n - 1 + 1) xs (omega arith) in
     ap is_plain r ∙ sym (ends_plain-push (take (n - 1) xs) (get_or xs (n - 1) s)) ∙ ap ends_plain (sym more ∙ all)
 
--- what `resize` leaves where it was not refused
+-- the list after a `resize` that is not refused
 pub grown : {X : Type 0} (xs now : List X) (x : X) (ok : Bool) (n len count : ℕ) → ok ≡ true → now ≡ cond ok (take n xs ++ replicate (n - len) x) xs → len ≡ length xs
     → n ≡ len + count → now ≡ xs ++ replicate count x
 grown {X} xs now x ok n len count k e l m =
@@ -347,7 +347,7 @@ pub padded_if : (ok : Bool) (t now : List ℕ) (s : List CellSize) (sb sc n len 
 padded_if true t now s sb sc n len e l m h = pushed t (replicate (n - len) 32) now s sb sc (e ∙ resized t 32 n len l m) (spaces_printable (n - len)) h
 padded_if false t now s sb sc n len e l m h = sized_same t now s s sb sc e refl h
 
--- ---- what is within
+-- ---- positions within the cells
 
 -- some size
 pub a_size : CellSize
@@ -456,7 +456,7 @@ some_index s (suc i) h = omega arith
 pub some_before : (s : List CellSize) (p : Position) (at : ℕ) → IsPosition s p → at < p.columns → 1 ≤ p.index
 some_before s p at a less = some_index s p.index (let columns = a.columns in omega arith)
 
--- the column is not after the cell that stands at the position
+-- the column is before the end of the cell at the position
 pub before_next : (s : List CellSize) (p q : Position) (x d : CellSize) (at : ℕ) → IsPosition s p → 1 ≤ p.index → x ≡ get_or s (p.index - 1) x → at < p.columns
     → q.index + 1 ≡ p.index → q.columns + width_of x.is_wide ≡ p.columns → at < q.columns + width_of (get_or s q.index d).is_wide
 before_next s p q x d at a some e less i c =

@@ -14,7 +14,7 @@ use Rattle.clustered_row.specs.Sizes.{bytes_of, columns_of, faces_of, is_text, i
 use Rattle.clustered_row.proofs.FaceLemmas.{closed_start-plain, was_split, split_end, opened_whole}
 use Rattle.clustered_row.proofs.SizeLemmas.{bytes_of-append, columns_of-append, bytes_split, columns_split, length-faces, join, cut_join, faces_more, cut_more, closed_end-faces, closed_start-faces, IsUtf8-cell, IsUtf8-cut, kept_first, kept_plain}
 
--- ---- a position between cells: so many cells before it, with so many bytes and columns
+-- ---- a position between cells: the numbers of cells, bytes and columns before it
 
 -- a text, the sizes of its cells, and a position between them
 pub record Placed (t : List ℕ) (s : List CellSize) (i b c : ℕ) : Type 0 where

@@ -88,7 +88,7 @@ one_byte : (c : ℕ) → length (encode_utf8 c) ≡ 1 → is_independent c ≡ t
 unfolding encode_utf8 is_independent
 one_byte c l h = grind (arith, nat_tests)
 
--- the size of a character of so many bytes and columns
+-- the size of a character of n bytes and `width` columns
 pub record IsSizeOf (n width : ℕ) (size : CellSize) : Type 0 where
   len : size.len ≡ n
   wide : size.is_wide ≡ (width == 2)

@@ -1,4 +1,4 @@
--- What tables of whole lists give reads back.
+-- Values that the tables of whole lists give read back.
 use Rattle.std.proofs.Common.{◌≡◌, ℕ, zero, suc, ◌≤◌, ℤ, pos, negsuc, eqb, leb, Bool, true, false, cond, ◌||◌, List, [], ◌∷◌, Option, Some, None, option_map, option_and_then, arith, refl, sym, ap, ◌∙◌, subst}
 use Rattle.std.specs.Option.{option_map_or, option_or, option_zip}
 use Rattle.std.proofs.lemmas.Bool.{cond_both, eqb-true, leb-true, le-leb, false≢true}
@@ -48,14 +48,14 @@ pub coordinate_number : (d n : ℕ) → IsCoordinate n → position d (Some (pos
 coordinate_number d zero h = absurd (omega (arith, h.0))
 coordinate_number d (suc n) h = rw (le-leb (suc n) word_max h.1, eqb-suc-zero n) refl
 
--- ---- Lists that no `?` begins, under finals of single spellings
+-- ---- Lists that don't begin with `?`, under final bytes of single actions
 
 pub standard_is : (truncated : Bool) (final : ℕ) (ts : List CsiParam) → begins_with_question ts ≡ false → other_reading truncated final ts ≡ standard_reading truncated final ts
 standard_is truncated final [] h = refl
 standard_is truncated final (Integer z ∷ ts) h = refl
 standard_is truncated final (P b ∷ ts) h = rw h refl
 
--- finals under which one spelling covers the whole list
+-- final bytes under which the whole list is one action
 pub record IsSingle (final : ℕ) : Type 0 where
   pub other : eqb final 109 ≡ false
   pub no_modes : (eqb final 104 || eqb final 108) ≡ false
@@ -68,7 +68,7 @@ single_back truncated final ts a l p e =
 
 -- ---- Lines of a table
 
--- what holds of all that each line gives
+-- Q holds of each value that a line of the table gives
 abbrev pub EachLine : {A : Type 0} → (A → Type 0) → Lines A → Type 0
 EachLine Q [] = Unit {0}
 EachLine Q (line ∷ lines) = ((ts : List CsiParam) (x : _) → line.1 ts ≡ Some x → Q x) × EachLine Q lines
@@ -79,7 +79,7 @@ module _ {A : Type 0} (Q : A → Type 0) where
   read_by-each (line ∷ lines) final ts x h e =
       cond_both (eqb line.0 final) (line.1 ts) (read_by lines final ts) (λ found. found ≡ Some x → Q x) (λ p. h.0 ts x) (λ p. read_by-each lines final ts x h.1) e
 
-  -- a value made of what a slot gives
+  -- a value made from the value of a slot
   pub made : {B : Type 0} (make : B → A) (R : B → Type 0) (found : Option B) → ((y : B) → found ≡ Some y → R y) → ((y : B) → R y → Q (make y)) → (x : A) → option_map make found ≡ Some x → Q x
   made make R None valid h x e = cc
   made make R (Some y) valid h x e = let q : make y ≡ x = cc in subst Q q (h y (valid y refl))

@@ -35,7 +35,7 @@ reading_by truncated final (t ∷ ts) b h e = ap (λ v. cond v (groups sgr_group
 no_group : (ts : List CsiParam) → sgr_group ts ≡ None → rendition_group ts ≡ None
 no_group ts e = ap (λ found. option_map (λ f. (sgr f.0, f.1)) found) e
 
--- ---- The end, and what follows some tokens
+-- ---- The end, and the actions after some tokens
 
 not_none : (n : ℕ) → 0 < n → eqb n 0 ≡ false
 not_none n h = grind (arith, nat_tests)
@@ -81,7 +81,7 @@ pub further_next : (read n : ℕ) (ts us : List CsiParam) (v : Sgr) (truncated :
 further_next read n ts us v truncated h at e =
     after_some read ts truncated 109 h ∙ group_next read n ts truncated 109 (sgr v) (as_group (drop read ts) v n (sym (ap sgr_group at) ∙ e))
 
--- where none stands, or another token after the first one, the rest is the last action
+-- where no group matches, or a token that isn't SGR's comes after the first group, the rest is the last action
 pub none_next : (read : ℕ) (ts us : List CsiParam) (truncated : Bool) → read < length ts → us ≡ drop read ts → sgr_group us ≡ None
     → actions_after read ts truncated 109 ≡ unspecified (drop read ts) truncated 109 ∷ []
 unfolding actions_after csi_reading

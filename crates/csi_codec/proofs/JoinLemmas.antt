@@ -33,7 +33,7 @@ and_more : (a b c : Bool) → (a && b) ≡ true → (b ≡ true → c ≡ true) 
 and_more true b c h k = k h
 and_more false b c h k = cc
 
--- a shape that stands goes on standing
+-- a shape that matches a list matches every longer one
 stands-append : (parts : List Part) (ts x : List CsiParam) → stands parts ts ≡ true → stands parts (ts ++ x) ≡ true
 stands-append [] ts x h = refl
 stands-append (part ∷ parts) [] x h = cc
@@ -46,7 +46,7 @@ no_semicolon (byte_part b ∷ parts) = not (eqb 59 b) && no_semicolon parts
 no_semicolon (number_part n ∷ parts) = no_semicolon parts
 no_semicolon (any_number ∷ parts) = no_semicolon parts
 
--- so it stands before a `;` only where it stands without
+-- so whether it matches doesn't change where a `;` and more come after the list
 stands_open : (parts : List Part) (ts x : List CsiParam) → no_semicolon parts ≡ true → stands parts (ts ++ P 59 ∷ x) ≡ stands parts ts
 stands_open [] ts x n = refl
 stands_open (byte_part b ∷ parts) [] x n = rw (not-true (eqb 59 b) (and_parts (not (eqb 59 b)) (no_semicolon parts) n).0) refl
@@ -58,7 +58,7 @@ stands_open (any_number ∷ parts) (t ∷ ts) x n = ap (λ v. is_part any_number
 
 -- ---- Forms of a colour
 
--- what a form reads in a list stands in it
+-- a form that matches a list reads the same colour where the list goes on
 abbrev Reads : Form → Type 0
 Reads form = (ts x : List CsiParam) → stands form.0 ts ≡ true → form.1 (ts ++ x) ≡ form.1 ts
 
@@ -80,7 +80,7 @@ colour_reads parts i j k m p q r u ts x s =
     let l : length parts ≤ length ts = stands-length parts ts s in
     rw (byte_at-append ts x i (omega arith), byte_at-append ts x j (omega arith), byte_at-append ts x k (omega arith), byte_at-append ts x m (omega arith)) refl
 
--- ---- The first form that stands
+-- ---- The first form that matches
 
 sign_conflict : (t : CsiParam) → is_part (byte_part 58) t ≡ true → is_part (byte_part 59) t ≡ false
 sign_conflict (Integer z) h = cc
@@ -102,11 +102,11 @@ second_conflict ps qs (t ∷ u ∷ ts) x h =
     let r : (is_part (number_part 5) u && stands ps ts) ≡ true = (and_parts (is_part (byte_part 59) t) (is_part (number_part 5) u && stands ps ts) h).1 in
     and_right (is_part (byte_part 59) t) (is_part (number_part 2) u && stands qs (ts ++ x)) (rw (code_conflict u (and_parts (is_part (number_part 5) u) (stands ps ts) r).0) refl)
 
--- what a list of forms finds is found again where the list goes on after a `;`
+-- the form that is found in a list is found again where the list goes on after a `;`
 record IsStable (forms : List Form) : Type 0 where
   again : (ts x : List CsiParam) → is_some (first_form forms ts) ≡ true → first_form forms (ts ++ P 59 ∷ x) ≡ first_form forms ts
 
--- a form that stands goes on standing, so it is enough that it cannot come to stand where a later one stands
+-- a form that matches goes on matching, so it is enough that it doesn't begin to match where a later form matches
 form-stable : (form : Form) (forms : List Form) → Reads form → IsStable forms
     → ((ts x : List CsiParam) → stands form.0 ts ≡ false → is_some (first_form forms ts) ≡ true → stands form.0 (ts ++ P 59 ∷ x) ≡ false) → IsStable (form ∷ forms)
 form-stable form forms reads stable separate = record {
@@ -131,7 +131,7 @@ given_some : {A C : Type 0} (found : Option A) → is_some found ≡ true → If
 given_some None h c = absurd (false≢true h)
 given_some (Some f) h c = c
 
--- a form with `;` and the number 2 cannot come to stand where one of the palette stands
+-- a form with `;` and the number 2 never matches a longer list where one of the palette matches
 palettes_disjoint : (ts x : List CsiParam) → is_some (first_form palettes ts) ≡ true → stands (byte_part 59 ∷ number_part 2 ∷ semicolons_rest) (ts ++ x) ≡ false
 palettes_disjoint ts x h =
     given_some (first_form palettes ts) h
@@ -184,7 +184,7 @@ numbered_shape-stable z ts x =
     (λ p h. ap (λ y. numbered_shape y (ts ++ P 59 ∷ x)) p ∙ colour_shape-stable value.UnderlineColor ts x h)
     (λ p h. ap (λ y. numbered_shape y (ts ++ P 59 ∷ x)) p ∙ underline_shape-stable ts x) (λ p q r s h. rw (p, q, r, s) refl)
 
--- what stands at the start stands there where the list goes on after a `;`
+-- the shape at the start of a list is found again where the list goes on after a `;`
 pub sgr_shape-stable : (ts x : List CsiParam) → is_some (sgr_shape ts) ≡ true → sgr_shape (ts ++ P 59 ∷ x) ≡ sgr_shape ts
 unfolding sgr_shape
 sgr_shape-stable [] x h = cc
@@ -193,7 +193,7 @@ sgr_shape-stable (Integer z ∷ ts) x h = numbered_shape-stable z ts x h
 
 -- ---- Groups
 
--- what stands at the end of a list
+-- the number of `;` at the end of a list: 1 or 0
 abbrev last_semicolon : List CsiParam → ℕ
 last_semicolon ts = semicolon_at ts (length ts - 1)
 
@@ -246,7 +246,7 @@ module _ (truncated : Bool) where
   abbrev follow : List CsiParam → Action × ℕ → List Action
   follow ts f = f.0 ∷ from (f.1 - 1) ts
 
-  -- one step, over what the shape found
+  -- one step, from the shape that was found
   abbrev step : Option (Sgr × ℕ) → List CsiParam → List CsiParam → List Action
   step found all ts = option_map_or (follow ts) (as_actions (with_semicolon all found)) (rest_action all ∷ [])
 

@@ -1,4 +1,4 @@
--- The longest shape of SGR decides: where one is chosen it is the longest that stands, and where none is none stands, or the
+-- The longest shape of SGR decides: where one is chosen it is the longest that matches, and where none is none matches, or the
 -- longest names no colour.
 use Rattle.std.proofs.Common.{◌≡◌, ◌⊎◌, ℕ, zero, suc, ◌+◌, ◌<◌, ◌≤◌, ℤ, pos, negsuc, eqb, leb, Bool, true, false, not, cond, ◌&&◌, ◌||◌, List, [], ◌∷◌, ◌++◌, map, length, Option, Some, None, option_map, option_and_then, inl, inr, arith, refl, ap, sym, subst, ◌∙◌}
 use Rattle.std.specs.Prelude.{is_some}
@@ -20,7 +20,7 @@ use Rattle.csi_codec.proofs.SgrForms.{number_of}
 
 -- ---- Lists of shapes
 
--- the longest of the list that stands there has n tokens
+-- the longest shape of the list that matches has n tokens
 abbrev Longest : List (List Part) → List CsiParam → ℕ → Type 0
 Longest shapes ts n = OneStands shapes ts n × NoneIsLonger shapes ts n
 
@@ -45,9 +45,9 @@ one-back : (a b : List (List Part)) (ts : List CsiParam) (n : ℕ) → OneStands
 one-back [] b ts n h = h
 one-back (shape ∷ a) b ts n h = inr (one-back a b ts n h)
 
--- the longest stands in one of two lists, and nothing in the other
-in_front : (a b : List (List Part)) (ts : List CsiParam) (n : ℕ) → Longest a ts n → NoneStands b ts → Longest (a ++ b) ts n
-in_front a b ts n h k = (one-prefix a b ts n h.0, longer-both a b ts n h.1 (no_longer b ts n k))
+-- the longest match is in one of two lists, where no shape of the other matches
+in_first : (a b : List (List Part)) (ts : List CsiParam) (n : ℕ) → Longest a ts n → NoneStands b ts → Longest (a ++ b) ts n
+in_first a b ts n h k = (one-prefix a b ts n h.0, longer-both a b ts n h.1 (no_longer b ts n k))
 
 in_back : (a b : List (List Part)) (ts : List CsiParam) (n : ℕ) → NoneStands a ts → Longest b ts n → Longest (a ++ b) ts n
 in_back a b ts n h k = (one-back a b ts n k.0, longer-both a b ts n (no_longer a ts n h) k.1)
@@ -78,7 +78,7 @@ module _ (part : Part) (t : CsiParam) (ts : List CsiParam) where
   led_longest : (shapes : List (List Part)) (n : ℕ) → is_part part t ≡ true → Longest shapes ts n → Longest (led part shapes) (t ∷ ts) (n + 1)
   led_longest shapes n p h = (led_one shapes n p h.0, led_longer shapes n h.1)
 
--- no shape that begins with a number stands where none is
+-- no shape that begins with a number matches a list that doesn't begin with one
 abbrev is_numbered : List Part → Bool
 is_numbered (number_part n ∷ parts) = true
 is_numbered _ = false
@@ -95,7 +95,7 @@ none_without (shape ∷ shapes) ts s h = (by shape ts (and_parts (is_numbered sh
     by (byte_part b ∷ parts) ts s h = cc
     by (any_number ∷ parts) ts s h = cc
 
--- ---- Numbers that stand alone
+-- ---- Numbers by themselves
 
 abbrev ones : List ℕ → List (List Part)
 ones numbers = map (λ k. number_part k ∷ []) numbers
@@ -112,7 +112,7 @@ ones_longest numbers z ts h = (one numbers h, short numbers)
     short [] = tt
     short (k ∷ numbers) = (λ s. omega arith, short numbers)
 
--- where each of the numbers is read as something, none of them stands where nothing is read
+-- where each of the numbers can be read, none of them matches a number that cannot be read
 ones_none : {X : Type 0} (read : ℤ → Option X) (numbers : List ℕ) (z : ℤ) (ts : List CsiParam) → list_all (λ k. is_some (read (pos k))) numbers ≡ true → read z ≡ None → NoneStands (ones numbers) (Integer z ∷ ts)
 ones_none read [] z ts h e = tt
 ones_none read (k ∷ numbers) z ts h e =
@@ -127,7 +127,7 @@ each_named : list_all (λ k. is_some (plain_code (pos k))) single_numbers ≡ tr
 unfolding single_code
 each_named = refl
 
--- what holds of each number below a bound
+-- a test that passes for n numbers from `first` on passes for each of them
 all_below : (test : ℕ → Bool) (first n m : ℕ) → list_all test (counted first n) ≡ true → first ≤ m → m < first + n → test m ≡ true
 all_below test first zero m h l u = absurd (omega arith)
 all_below test first (suc n) m h l u = by (eqb first m) refl (all_below test (first + 1) n m (and_parts (test first) (list_all test (counted (first + 1) n)) h).1)
@@ -171,7 +171,7 @@ all_shorter [] ts n h = tt
 all_shorter (form ∷ forms) ts n h =
     let p = and_parts (leb (length form.0) n) (list_all (λ form. leb (length form.0) n) forms) h in (λ s. leb-true (length form.0) n p.0, all_shorter forms ts n p.1)
 
--- the longest form that stands names no colour
+-- the longest form that matches names no colour
 record Refused (forms : List Form) (ts : List CsiParam) (n : ℕ) : Type 0 where
   names_none : OneNamesNone forms ts n
   longest : Longest (shapes_of forms) ts n
@@ -203,7 +203,7 @@ first_decides (form ∷ forms) ts h =
     after p None (inr r) = inr (r.0, record { names_none = inr r.1.names_none; longest = past p r.0 r.1.longest })
     after p (Some f) l = past p f.1 l
 
--- what is chosen is the longest; where nothing is, nothing stands, or the longest names no colour
+-- the chosen shape is the longest; where none is chosen, none matches, or the longest names no colour
 abbrev Decides : List CsiParam → Option (Sgr × ℕ) → Type 0
 Decides ts None = NoneStands sgr_shapes ts ⊎ IsNoColour ts
 Decides ts (Some f) = Longest sgr_shapes ts f.1
@@ -250,12 +250,12 @@ module _ (z : ℤ) (ts : List CsiParam) where
   numbered : (n : ℕ) → Longest all_numbered whole n → Longest sgr_shapes whole n
   numbered n l = (inr l.0, (λ s. cc, l.1))
 
-  -- the colours of one target stand among those of all
+  -- the longest colour shape of one target is the longest of those of all targets
   colour_longest : (t : Target) (n : ℕ) → z ≡ pos (number_of t) → Longest (colour_shapes (number_of t)) whole n → Longest all_colours whole n
   colour_longest foreground n p l =
-      in_front (colour_shapes 38) (colour_shapes 48 ++ colour_shapes 58) whole n l (none-both (colour_shapes 48) (colour_shapes 58) whole (no_colour 48 (ap (is_number 48) p)) (no_colour 58 (ap (is_number 58) p)))
+      in_first (colour_shapes 38) (colour_shapes 48 ++ colour_shapes 58) whole n l (none-both (colour_shapes 48) (colour_shapes 58) whole (no_colour 48 (ap (is_number 48) p)) (no_colour 58 (ap (is_number 58) p)))
   colour_longest background n p l =
-      in_back (colour_shapes 38) (colour_shapes 48 ++ colour_shapes 58) whole n (no_colour 38 (ap (is_number 38) p)) (in_front (colour_shapes 48) (colour_shapes 58) whole n l (no_colour 58 (ap (is_number 58) p)))
+      in_back (colour_shapes 38) (colour_shapes 48 ++ colour_shapes 58) whole n (no_colour 38 (ap (is_number 38) p)) (in_first (colour_shapes 48) (colour_shapes 58) whole n l (no_colour 58 (ap (is_number 58) p)))
   colour_longest underline_colour n p l =
       in_back (colour_shapes 38) (colour_shapes 48 ++ colour_shapes 58) whole n (no_colour 38 (ap (is_number 38) p)) (in_back (colour_shapes 48) (colour_shapes 58) whole n (no_colour 48 (ap (is_number 48) p)) l)
 
@@ -298,7 +298,7 @@ module _ (z : ℤ) (ts : List CsiParam) where
       by : (found : Option Sgr) → plain_code z ≡ found → Decides whole (taking 1 found)
       by None e = inl (nothing (no_alone e) (no_line s) (no_colours p q r))
       by (Some v) e =
-          numbered 1 (in_front (ones single_numbers) (underline_shapes ++ all_colours) whole 1 (ones_longest single_numbers z ts (named_listed z v e)) (none-both underline_shapes all_colours whole (no_line s) (no_colours p q r)))
+          numbered 1 (in_first (ones single_numbers) (underline_shapes ++ all_colours) whole 1 (ones_longest single_numbers z ts (named_listed z v e)) (none-both underline_shapes all_colours whole (no_line s) (no_colours p q r)))
 
 -- ---- Underlines
 
@@ -319,7 +319,7 @@ some_kind w u e = by (is_number 0 w) (is_number 1 w) (is_number 2 w) (is_number 
 single : (ts : List CsiParam) → NoneStands (led colon (ones kinds)) ts → Longest sgr_shapes (Integer (pos 4) ∷ ts) 1
 single ts none =
     let lines : NoneStands underline_shapes (Integer (pos 4) ∷ ts) = led_nothing (number_part 4) (Integer (pos 4)) ts (led colon (ones kinds)) none in
-    numbered (pos 4) ts 1 (in_front (ones single_numbers) (underline_shapes ++ all_colours) (Integer (pos 4) ∷ ts) 1 (ones_longest single_numbers (pos 4) ts refl)
+    numbered (pos 4) ts 1 (in_first (ones single_numbers) (underline_shapes ++ all_colours) (Integer (pos 4) ∷ ts) 1 (ones_longest single_numbers (pos 4) ts refl)
     (none-both underline_shapes all_colours (Integer (pos 4) ∷ ts) lines (no_colours (pos 4) ts refl refl refl)))
 
 -- 4 and a kind
@@ -328,7 +328,7 @@ lined w us u e =
     let ts : List CsiParam = P 58 ∷ Integer w ∷ us in
     let line : Longest underline_shapes (Integer (pos 4) ∷ ts) 3 =
     led_longest (number_part 4) (Integer (pos 4)) ts (led colon (ones kinds)) 2 refl (led_longest colon (P 58) (Integer w ∷ us) (ones kinds) 1 refl (ones_longest kinds w us (some_kind w u e))) in
-    let rest : Longest (underline_shapes ++ all_colours) (Integer (pos 4) ∷ ts) 3 = in_front underline_shapes all_colours (Integer (pos 4) ∷ ts) 3 line (no_colours (pos 4) ts refl refl refl) in
+    let rest : Longest (underline_shapes ++ all_colours) (Integer (pos 4) ∷ ts) 3 = in_first underline_shapes all_colours (Integer (pos 4) ∷ ts) 3 line (no_colours (pos 4) ts refl refl refl) in
     numbered (pos 4) ts 3 (one-back (ones single_numbers) (underline_shapes ++ all_colours) (Integer (pos 4) ∷ ts) 3 rest.0, longer-both (ones single_numbers) (underline_shapes ++ all_colours) (Integer (pos 4) ∷ ts) 3 (short single_numbers) rest.1)
   where
     short : (numbers : List ℕ) → NoneIsLonger (ones numbers) (Integer (pos 4) ∷ P 58 ∷ Integer w ∷ us) 3

@@ -1,4 +1,4 @@
--- Each mode that can be written reads back from what is written for it.
+-- Each mode that can be written reads back from its encoding.
 use Rattle.std.proofs.Common.{◌≡◌, ℕ, ℤ, pos, negsuc, eqb, leb, Bool, true, false, cond, ◌||◌, [], ◌∷◌, Option, Some, None, option_and_then, refl, ap, ◌∙◌}
 use Rattle.std.specs.Prelude.{is_some}
 use Rattle.std.specs.Option.{option_map_or}
@@ -115,7 +115,7 @@ unfolding private_mode_reading mode_reading
 neither_mode final (negsuc k) h e = refl
 neither_mode final (pos n) h e = neither_within final n (leb n 65535) refl h e
 
--- a private mode stands only under h, l, s and r
+-- a private mode is read only under the final bytes h, l, s and r
 some_step : (m : DecPrivateMode) (a b c d : Bool)
     → is_some (cond a (Some (does.SetDecPrivateMode m)) (cond b (Some (does.ResetDecPrivateMode m)) (cond c (Some (does.SaveDecPrivateMode m)) (cond d (Some (does.RestoreDecPrivateMode m)) None)))) ≡ true
     → ((a || b) || (c || d)) ≡ true

@@ -1,4 +1,4 @@
--- Groups: how many tokens one takes, and what the actions of a list are by its first group.
+-- Groups: how many tokens a group takes, and the actions of a list by its first group.
 use Rattle.std.proofs.Common.{◌≡◌, ℕ, zero, suc, ◌+◌, ◌-◌, ◌<◌, ◌≤◌, ℤ, eqb, Bool, true, false, cond, List, [], ◌∷◌, length, length-drop, drop, Option, Some, None, option_map, arith, refl, ap, ◌∙◌, subst}
 use Rattle.std.specs.Option.{option_map_or}
 use Rattle.csi_codec.specs.declared.parameters.CsiParam.{CsiParam}
@@ -63,7 +63,7 @@ groups_from-drop group unread zero ts = refl
 groups_from-drop group unread (suc k) [] = refl
 groups_from-drop group unread (suc k) (t ∷ ts) = groups_from-drop group unread k ts
 
--- where a group stands it is the first action, and the others are those of what follows
+-- where a group is found it is the first action, and the remaining actions are those of the tokens after it
 pub groups_found : (k : Kind) (truncated : Bool) (final : ℕ) (ts : List CsiParam) (a : Action) (n : ℕ) → group_of k final ts ≡ Some (a, n) → groups k truncated final ts ≡ a ∷ groups k truncated final (drop n ts)
 unfolding groups
 groups_found k truncated final [] a n e = let t : (0 < n) × (n ≤ 0) = group_of_takes k final [] a n e in absurd (omega (arith, t.0, t.1))
@@ -78,7 +78,7 @@ groups_found k truncated final (t ∷ ts) a (suc n) e =
     sub_one : (n : ℕ) → suc n - 1 ≡ n
     sub_one n = omega arith
 
--- where none stands the list remains
+-- where no group is found the whole list is a single action
 pub groups_rest : (k : Kind) (truncated : Bool) (final : ℕ) (ts : List CsiParam) → group_of k final ts ≡ None → 0 < length ts → groups k truncated final ts ≡ unspecified ts truncated final ∷ []
 unfolding groups
 groups_rest k truncated final [] e h = absurd (omega arith)
@@ -93,6 +93,6 @@ unfolding groups
 groups_none k truncated final [] h = refl
 groups_none k truncated final (t ∷ ts) h = absurd (omega arith)
 
--- and so has what follows the end of a list
+-- and a list whose tokens are all dropped has none either
 pub groups_ended : (k : Kind) (truncated : Bool) (final : ℕ) (ts : List CsiParam) (n : ℕ) → length ts ≤ n → groups k truncated final (drop n ts) ≡ []
 groups_ended k truncated final ts n h = groups_none k truncated final (drop n ts) (omega (arith, length-drop n ts))

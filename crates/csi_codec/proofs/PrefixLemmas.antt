@@ -12,7 +12,7 @@ use Rattle.csi_codec.proofs.TokenLemmas.{Keeps, keeps_tokens}
 use Rattle.csi_codec.specs.Texts.{tokens_of, all_parameter_bytes}
 use Rattle.csi_codec.specs.Prefixes.{most_tokens, Prefix, IsSequence, HasPrefix, HasNoPrefix, OnePrefix}
 
--- how many parameter bytes stand at the start
+-- the number of parameter bytes at the start
 abbrev parameter_len : List ℕ → ℕ
 parameter_len bytes = prefix_len (is_between 32 63) bytes
 
@@ -39,7 +39,7 @@ parameters-prefix [] = refl
 parameters-prefix (b ∷ bytes) =
     subst (λ n. all_parameter_bytes (take n (b ∷ bytes)) ≡ true) (sym (parameter_len-cons b bytes)) (prefix_byte b bytes (is_between 32 63 b) refl (parameters-prefix bytes))
 
--- the parameter bytes of a sequence end where its final byte stands
+-- the parameter bytes of a sequence end at its final byte
 parameter_len-sequence : (body : List ℕ) (control : ℕ) (rest : List ℕ) → all_parameter_bytes body ≡ true → 64 ≤ control → parameter_len (body ++ control ∷ rest) ≡ length body
 parameter_len-sequence [] control rest h low = parameter_len-cons control rest ∙ ap (λ v. cond v (suc (parameter_len rest)) 0) (not_parameter control low)
 parameter_len-sequence (b ∷ body) control rest h low =
@@ -47,7 +47,7 @@ parameter_len-sequence (b ∷ body) control rest h low =
     ∙ ap (λ v. cond v (suc (parameter_len (body ++ control ∷ rest))) 0) (and_parts (is_between 32 63 b) (all_parameter_bytes body) h).0
     ∙ ap suc (parameter_len-sequence body control rest (and_parts (is_between 32 63 b) (all_parameter_bytes body) h).1 low)
 
--- after the parameter bytes the final byte stands
+-- after the parameter bytes comes the final byte
 remaining-sequence : (bytes after body : List ℕ) (control : ℕ) (rest : List ℕ) → bytes ≡ 27 ∷ 91 ∷ after → IsSequence bytes body control rest → drop (parameter_len after) after ≡ control ∷ rest
 remaining-sequence bytes after body control rest e s =
     let b : after ≡ body ++ control ∷ rest = cc s.text in
@@ -55,7 +55,7 @@ remaining-sequence bytes after body control rest e s =
     ∙ ap (λ n. drop n (body ++ control ∷ rest)) (parameter_len-sequence body control rest s.parameters s.low)
     ∙ drop-append_seam body (control ∷ rest)
 
--- what follows the parameter bytes that are read
+-- the bytes after the parameter bytes that are read
 after_parameters : (len : ℕ) (after : List ℕ) → len ≡ prefix_len is_parameter after → take (length after - len) (drop len after) ≡ drop (parameter_len after) after
 unfolding is_parameter
 after_parameters len after e = take_rest after len ∙ ap (λ n. drop n after) e

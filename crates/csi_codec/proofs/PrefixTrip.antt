@@ -45,16 +45,16 @@ text_prefix a written h =
 -- ---- By value
 
 -- each token has a byte at least
-tokens-few : (ts : List CsiParam) → is_spellable ts ≡ true → length ts ≤ length (flat_map token_text ts)
-tokens-few [] h = omega arith
-tokens-few (P b ∷ ts) h =
+tokens-bound : (ts : List CsiParam) → is_spellable ts ≡ true → length ts ≤ length (flat_map token_text ts)
+tokens-bound [] h = omega arith
+tokens-bound (P b ∷ ts) h =
     let one = ap length (sign_text b (and_parts (is_sign b) (is_spellable ts) h).0) in
-    omega (arith, one, tokens-few ts (spellable-tail (P b) ts h), length-append (encode_utf8 b) (flat_map token_text ts))
-tokens-few (Integer (negsuc n) ∷ ts) h = cc
-tokens-few (Integer (pos n) ∷ ts) h =
+    omega (arith, one, tokens-bound ts (spellable-tail (P b) ts h), length-append (encode_utf8 b) (flat_map token_text ts))
+tokens-bound (Integer (negsuc n) ∷ ts) h = cc
+tokens-bound (Integer (pos n) ∷ ts) h =
     let small : n ≤ largest_number = leb-true n largest_number (and_parts (is_written_number (pos n)) _ h).0 in
     let fits : n < 2 ^ 64 = omega arith in
-    omega (arith, nonempty_decimal n fits, tokens-few ts (spellable-tail (Integer (pos n)) ts h), length-append (decimal n) (flat_map token_text ts))
+    omega (arith, nonempty_decimal n fits, tokens-bound ts (spellable-tail (Integer (pos n)) ts h), length-append (decimal n) (flat_map token_text ts))
 
 pub writable_texts_are_sequences-lem : WritableTextsAreSequences
 writable_texts_are_sequences-lem a h =
@@ -62,7 +62,7 @@ writable_texts_are_sequences-lem a h =
     text_prefix a written (omega (
       arith,
       actions_are_short a h,
-      tokens-few (spelling_of a).params written.params,
+      tokens-bound (spelling_of a).params written.params,
       length-append (flat_map token_text (spelling_of a).params) (encode_utf8 (spelling_of a).control),
     ))
 
@@ -74,13 +74,13 @@ spellable-drop [] (suc n) h = refl
 spellable-drop (t ∷ ts) (suc n) h = spellable-drop ts n (spellable-tail t ts h)
 
 pub texts_are_sequences-lem : TextsAreSequences
-texts_are_sequences-lem ts truncated final h few low high = by (csi_reading ts truncated final) (reading-each ts truncated final)
+texts_are_sequences-lem ts truncated final h bound low high = by (csi_reading ts truncated final) (reading-each ts truncated final)
   where
     IsPrefix : Action → Type 0
     IsPrefix a = HasPrefix (csi_text a) (whole_prefix (spelling_of a))
 
     rest : (n : ℕ) → IsPrefix (unspecified (drop n ts) truncated final)
-    rest n = text_prefix (unspecified (drop n ts) truncated final) (record { params = spellable-drop ts n h; low = low; high = high }) (omega (arith, few, length-drop n ts))
+    rest n = text_prefix (unspecified (drop n ts) truncated final) (record { params = spellable-drop ts n h; low = low; high = high }) (omega (arith, bound, length-drop n ts))
 
     by : (actions : List Action) → Each ts truncated final actions → AllByRecursion IsPrefix actions
     by [] e = tt

@@ -1,4 +1,4 @@
--- Each action of a list can be written, but for the rest of the list; so each reads back.
+-- Each action of a list can be written, except the unparsed rest of the list; so each reads back.
 use Rattle.std.proofs.Common.{◌≡◌, ◌⊎◌, ℕ, zero, suc, ◌+◌, ◌-◌, ◌<◌, ◌≤◌, ℤ, eqb, Bool, true, false, cond, ◌||◌, List, [], ◌∷◌, length, length-drop, drop, drop-drop, Option, Some, None, option_map, inl, inr, arith, refl, sym, ap, ◌∙◌, subst}
 use Rattle.std.specs.Prelude.{is_some}
 use Rattle.std.specs.Option.{option_map_or, option_or}
@@ -29,12 +29,12 @@ use Rattle.csi_codec.proofs.ModeBack.{mode_back, neither_mode, some_private}
 
 -- ---- Each action of a list
 
--- what is left of a list, which reads back but for the exception
+-- the unparsed rest of a list, which reads back unless it is exempt
 pub record IsRest (whole : List CsiParam) (truncated : Bool) (final : ℕ) (rest : List CsiParam) : Type 0 where
   pub suffix : IsSuffix rest whole
   pub back : is_exempt whole final (unspecified rest truncated final) ≡ false → ReadsBack truncated (unspecified rest truncated final)
 
--- each action can be written, but that the last one may be what is left of the list
+-- each action can be written, except that the last one may be the unparsed rest of the list
 abbrev pub Each : List CsiParam → Bool → ℕ → List Action → Type 0
 Each whole truncated final [] = Unit {0}
 Each whole truncated final (a ∷ remaining) =
@@ -178,7 +178,7 @@ module _ (truncated : Bool) where
       → Shorter whole ts → IsSuffix ts whole → Each whole truncated final (groups k truncated final ts)
   modes-each k final whole ts m o h l s = groups-each k final whole (Shorter whole) (λ t us r. omega arith) (modes_rest k final whole m o h) ts l s
 
-  -- the first mode stands, and so the others are those of a shorter list
+  -- where the first mode is found, the remaining actions are those of a shorter list
   standing-each : (k : Kind) (final : ℕ) (whole ts : List CsiParam) (found : Option (Action × ℕ)) → IsModes k → eqb final 109 ≡ false
       → ((eqb final 104 || eqb final 108) || (eqb final 115 || eqb final 114)) ≡ true → IsSuffix ts whole
       → group_of k final ts ≡ found → is_some found ≡ true → Each whole truncated final (groups k truncated final ts)
@@ -208,7 +208,7 @@ module _ (truncated : Bool) where
   modes_or-each k final whole ts false e m o finals l q =
       whole-each whole final (q ∙ ap (λ b. cond b (groups k truncated final ts) (unspecified whole truncated final ∷ [])) e)
 
-  -- ---- One spelling for the whole list
+  -- ---- One action for the whole list
 
   single_by : (ts : List CsiParam) (final : ℕ) (c : Option Cursor) (e : Option Edit) (d : Option Device) → cursor_reading final ts ≡ c → edit_reading final ts ≡ e → device_reading final ts ≡ d
       → csi_reading ts truncated final ≡ single_or truncated final ts

@@ -1,4 +1,4 @@
--- Each value of SGR that can be written reads back from what is written for it.
+-- Each value of SGR that can be written reads back from its encoding.
 use Rattle.std.proofs.Common.{◌≡◌, ℕ, ◌≤◌, pos, Bool, List, [], ◌∷◌, Some, None, refl, sym, ap, ◌∙◌}
 use Rattle.std.proofs.lemmas.Bool.{le-leb}
 use Rattle.cell_base.specs.declared.color.ColorSpec.TheVariants as color

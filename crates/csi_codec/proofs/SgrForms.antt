@@ -1,4 +1,4 @@
--- What is written for SGR, walked once: what holds of each form holds of every value that can be written.
+-- The encodings of SGR values, walked once: a property of each form holds of every value that can be written.
 use Rattle.std.proofs.Common.{◌≡◌, ℕ, zero, suc, ◌+◌, ◌-◌, ◌<◌, ◌≤◌, pos, eqb, ltb, true, false, List, [], ◌∷◌, Some, arith, refl, sym, ◌∙◌, subst, inl, inr}
 use Rattle.std.proofs.lemmas.Bool.{cond_both, eqb-true, leb-true, false≢true}
 use Rattle.std.proofs.lemmas.Bool.Decides.{leb_tells}
@@ -26,7 +26,7 @@ number_of foreground = 38
 number_of background = 48
 number_of underline_colour = 58
 
--- Q holds of the tokens of each form and their value: a number that stands alone, an underline of a kind, and a colour by
+-- Q holds of the tokens of each form and their value: a number by itself, an underline of a kind, and a colour by
 -- its index, without an alpha, and with one
 pub record EachWritten (Q : List CsiParam → Sgr → Type 0) : Type 0 where
   pub single : (n : ℕ) (v : Sgr) → n ≤ 255 → single_code n ≡ Some v → Q (number_tokens n) v
@@ -52,14 +52,14 @@ not_below n k p = elim (leb_tells (suc n) k) [ inl t ↦ absurd (false≢true (s
 record HasShort (t : Target) (low bright : ℕ) : Type 0 where
   first : (n : ℕ) → n < 8 → single_code (low + n) ≡ Some (set_to t (color.PaletteIndex n))
   second : (n : ℕ) → n < 8 → single_code (bright + (8 + n)) ≡ Some (set_to t (color.PaletteIndex (8 + n)))
-  few : low + bright ≤ 200
+  bound : low + bright ≤ 200
 
 short_foreground : HasShort foreground 30 82
 unfolding single_code
 short_foreground = record {
   first = below 8 (λ n. single_code (30 + n) ≡ Some (value.Foreground (color.PaletteIndex n))) (refl, (refl, (refl, (refl, (refl, (refl, (refl, (refl, tt))))))));
   second = below 8 (λ n. single_code (82 + (8 + n)) ≡ Some (value.Foreground (color.PaletteIndex (8 + n)))) (refl, (refl, (refl, (refl, (refl, (refl, (refl, (refl, tt))))))));
-  few = omega arith;
+  bound = omega arith;
 }
 
 short_background : HasShort background 40 92
@@ -67,7 +67,7 @@ unfolding single_code
 short_background = record {
   first = below 8 (λ n. single_code (40 + n) ≡ Some (value.Background (color.PaletteIndex n))) (refl, (refl, (refl, (refl, (refl, (refl, (refl, (refl, tt))))))));
   second = below 8 (λ n. single_code (92 + (8 + n)) ≡ Some (value.Background (color.PaletteIndex (8 + n)))) (refl, (refl, (refl, (refl, (refl, (refl, (refl, (refl, tt))))))));
-  few = omega arith;
+  bound = omega arith;
 }
 
 font_number : (k : ℕ) → 1 ≤ k → k ≤ 9 → single_code (10 + k) ≡ Some (value.Font (font.Alternate k))
@@ -89,13 +89,13 @@ module _ {Q : List CsiParam → Sgr → Type 0} (each : EachWritten Q) where
   short t off low bright (color.TrueColor c) s o e h = exact t c h
   short t off low bright (color.PaletteIndex n) s o e h =
       cond_both (ltb n 8) _ _ (λ ts. Q ts (set_to t (color.PaletteIndex n)))
-      (λ p. let small : n < 8 = leb-true (suc n) 8 p in each.single (low + n) (set_to t (color.PaletteIndex n)) (omega (arith, s.few)) (s.first n small)) (λ p.
+      (λ p. let small : n < 8 = leb-true (suc n) 8 p in each.single (low + n) (set_to t (color.PaletteIndex n)) (omega (arith, s.bound)) (s.first n small)) (λ p.
       cond_both (ltb n 16) _ _ (λ ts. Q ts (set_to t (color.PaletteIndex n)))
       (λ q.
       let above : 8 ≤ n = not_below n 8 p in
       let small : n < 16 = leb-true (suc n) 16 q in
       let whole : 8 + (n - 8) ≡ n = omega arith in
-      each.single (bright + n) (set_to t (color.PaletteIndex n)) (omega (arith, s.few))
+      each.single (bright + n) (set_to t (color.PaletteIndex n)) (omega (arith, s.bound))
       (subst (λ (k : ℕ). single_code (bright + k) ≡ Some (set_to t (color.PaletteIndex k))) whole (s.second (n - 8) (omega arith)))) (λ q. each.palette t n h))
 
   of_line : (c : ColorSpec) → IsColour c → Q (underline_colour_tokens c) (value.UnderlineColor c)

@@ -5,11 +5,11 @@ use Rattle.csi_codec.specs.declared.parameters.CsiParam.{CsiParam}
 use Rattle.csi_codec.specs.Rendition.{Part, is_part, stands, taking, Form, colour_forms, sgr_shape}
 use Rattle.csi_codec.proofs.ShapeLemmas.{EachForm, EachShape, sgr_shape-each}
 
--- what is taken is at least one token, and no more than there are
+-- a match takes at least one token, and no more than there are
 abbrev pub Takes : {A : Type 0} → ℕ → Option (A × ℕ) → Type 0
 Takes n found = IfSome found (λ f. (0 < f.1) × (f.1 ≤ n))
 
--- a shape is no longer than the list that it stands at the start of
+-- a shape is no longer than a list that it matches
 pub stands-length : (parts : List Part) (ts : List CsiParam) → stands parts ts ≡ true → length parts ≤ length ts
 stands-length [] ts h = omega arith
 stands-length (part ∷ parts) [] h = cc

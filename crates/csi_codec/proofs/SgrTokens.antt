@@ -1,4 +1,4 @@
--- The tokens of a group of SGR are tokens of SGR, so the tokens after the first group decide whether a list has no others.
+-- The tokens of a group of SGR are tokens of SGR, so the tokens after the first group decide whether all of a list's are.
 use Rattle.std.proofs.Common.{◌≡◌, ℕ, zero, suc, ◌+◌, ℤ, eqb, Bool, true, cond, ◌&&◌, ◌||◌, List, [], ◌∷◌, length, drop, Option, Some, None, IfSome, option_map, arith, refl, sym, ap, ◌∙◌, subst, inl, inr}
 use Rattle.std.proofs.lemmas.Bool.{cases_Bool, eqb-true, and_parts, or_left}
 use Rattle.csi_codec.specs.declared.parameters.CsiParam.{CsiParam}
@@ -30,7 +30,7 @@ part_is_token any_number (P c) s h = cc
 abbrev DecidedAfter : List CsiParam → ℕ → Type 0
 DecidedAfter ts n = all_sgr_tokens ts ≡ all_sgr_tokens (drop n ts)
 
--- by those after a shape that stands
+-- the tokens after a shape that matches decide
 stands-sgr : (parts : List Part) (ts : List CsiParam) → all_sgr_parts parts ≡ true → stands parts ts ≡ true → DecidedAfter ts (length parts)
 stands-sgr [] ts s h = refl
 stands-sgr (part ∷ parts) [] s h = cc
@@ -38,7 +38,7 @@ stands-sgr (part ∷ parts) (t ∷ ts) s h =
     ap (λ b. b && all_sgr_tokens ts) (part_is_token part t (and_parts (is_sgr_part part) (all_sgr_parts parts) s).0 (and_parts (is_part part t) (stands parts ts) h).0)
     ∙ stands-sgr parts ts (and_parts (is_sgr_part part) (all_sgr_parts parts) s).1 (and_parts (is_part part t) (stands parts ts) h).1
 
--- by those after what was found
+-- the tokens after the match that was found decide
 abbrev Passes : {A : Type 0} → List CsiParam → Option (A × ℕ) → Type 0
 Passes ts found = IfSome found (λ f. DecidedAfter ts f.1)
 

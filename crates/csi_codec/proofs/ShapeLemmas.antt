@@ -1,4 +1,4 @@
--- The shapes of SGR, walked once: what holds of each of them holds of the one that is found.
+-- The shapes of SGR, walked once: a property of each shape holds of the one that is found.
 use Rattle.std.proofs.Common.{◌≡◌, ℕ, ◌+◌, ℤ, pos, negsuc, eqb, true, false, List, [], ◌∷◌, length, Option, Some, None, IfSome, option_map, refl, ap, sym, subst}
 use Rattle.std.proofs.lemmas.Bool.{cond_both, eqb-true}
 use Rattle.cell_base.specs.declared.color.ColorSpec.{ColorSpec}
@@ -21,7 +21,7 @@ taking-each Q n (Some v) h = h v refl
 
 -- ---- Forms of a colour
 
--- R holds of each colour that a form of the list gives where it stands, with the number of its tokens
+-- R holds of each colour that a form of the list gives where the form matches, with the number of its tokens
 abbrev pub EachForm : (List CsiParam → ColorSpec × ℕ → Type 0) → List Form → Type 0
 EachForm R [] = Unit {0}
 EachForm R (form ∷ forms) = ((ts : List CsiParam) (c : ColorSpec) → stands form.0 ts ≡ true → form.1 ts ≡ Some c → R ts (c, length form.0)) × EachForm R forms
@@ -32,7 +32,7 @@ first_form-each R (form ∷ forms) each ts =
     cond_both (stands form.0 ts) (taking (length form.0) (form.1 ts)) (first_form forms ts) (λ found. IfSome found (R ts))
     (λ e. taking-each (R ts) (length form.0) (form.1 ts) (λ c q. each.0 ts c e q)) (λ e. first_form-each R forms each.1 ts)
 
--- ---- A number, and what follows it
+-- ---- A number, and the tokens after it
 
 -- a colour follows 38, 48 and 58, an underline after 4, and any other number is alone
 pub numbered_shape-by : (Q : Option (Sgr × ℕ) → Type 0) (z : ℤ) (ts : List CsiParam)
@@ -49,7 +49,7 @@ numbered_shape-by Q z ts fore back line under single =
 
 -- ---- Every shape
 
--- what a colour is for: the text, what follows it, or its underline
+-- the target of a colour: the foreground, the background or the underline
 pub data Target : Type 0 where
   foreground : Target
   background : Target

@@ -35,7 +35,7 @@ use Rattle.csi_codec.proofs.SgrForms.{EachWritten, number_of, sgr_tokens-each}
 
 -- ---- Tokens
 
--- their text has at most so many bytes
+-- the text of these tokens has at most k bytes
 abbrev Short : ℕ → List CsiParam → Type 0
 Short k ts = length (flat_map token_text ts) ≤ k
 
@@ -62,7 +62,7 @@ channel_first k n ts h l =
     weaker (k + 3 + 1) (k + 4) (channel n ts)
     (sign_first (k + 3) 58 (Integer (pos n) ∷ ts) (omega arith) (number_first k 3 n ts (omega arith) (omega arith) (omega arith) l)) (omega arith)
 
--- what a colour is for, a `:` and its kind
+-- the number of a colour's target, a `:` and the number of its kind
 kind_first : (k target kind : ℕ) (ts : List CsiParam) → target < 100 → kind < 10 → Short k ts → Short (k + 4) (Integer (pos target) ∷ P 58 ∷ Integer (pos kind) ∷ ts)
 kind_first k target kind ts h d l =
     weaker (k + 1 + 1 + 2) (k + 4) (Integer (pos target) ∷ P 58 ∷ Integer (pos kind) ∷ ts)
@@ -177,17 +177,17 @@ wavy_short k h =
     weaker 3 21 (Integer (pos 4) ∷ P 58 ∷ Integer (pos k) ∷ [])
     (number_first 2 1 4 (P 58 ∷ Integer (pos k) ∷ []) (omega arith) (omega arith) (omega arith) (sign_first 1 58 (Integer (pos k) ∷ []) (omega arith) (digit_short k h))) (omega arith)
 
-target_few : (t : Target) → number_of t < 100
-target_few foreground = omega arith
-target_few _ = omega arith
+target_bound : (t : Target) → number_of t < 100
+target_bound foreground = omega arith
+target_bound _ = omega arith
 
 forms_short : EachWritten (λ ts v. Short 21 ts)
 forms_short = record {
   single = λ n v h e. byte_short n h;
   line = λ k u h e. wavy_short k h;
-  palette = λ t n h. palette_short (number_of t) n (target_few t) h;
-  opaque = λ t r g b h k l. opaque_short (number_of t) r g b (target_few t) h k l;
-  alpha = λ t r g b a h k l m. alpha_short (number_of t) r g b a (target_few t) h k l m;
+  palette = λ t n h. palette_short (number_of t) n (target_bound t) h;
+  opaque = λ t r g b h k l. opaque_short (number_of t) r g b (target_bound t) h k l;
+  alpha = λ t r g b a h k l m. alpha_short (number_of t) r g b a (target_bound t) h k l m;
 }
 
 sgrs_are_short : (v : Sgr) → IsWritableSgr v → length (csi_text (sgr v)) ≤ 24

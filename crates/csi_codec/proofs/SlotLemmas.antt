@@ -91,7 +91,7 @@ pair_written a b h k =
     let y : b ≤ largest_number = omega (arith, k.1) in
     rw (le-leb a largest_number x, le-leb b largest_number y) refl
 
--- they can be spelled by bytes
+-- they can be encoded in bytes
 pub slots_written : (s : Slots) → AreCoordinates s → AreDigits s → is_spellable (slots_tokens s) ≡ true
 slots_written nothing h d = refl
 slots_written (counted n) h d = cond_both (eqb n 1) [] (number_tokens n) (λ ts. is_spellable ts ≡ true) (λ e. refl) (λ e. number_written n h.1)

@@ -1,4 +1,4 @@
--- Each value of the tables of whole lists reads back from what is written for it.
+-- Each value of the tables of whole lists reads back from its encoding.
 use Rattle.std.proofs.Common.{◌≡◌, Bool, List, Some, None, option_map, refl, ap}
 use Rattle.csi_codec.specs.declared.cursors.CursorStyle.{CursorStyle}
 use Rattle.csi_codec.specs.declared.cursors.CursorStyle.TheVariants as style
@@ -27,7 +27,7 @@ use Rattle.csi_codec.specs.Laws.{ReadsBack}
 use Rattle.csi_codec.specs.Writable.{IsWritableCursor, IsWritableEdit}
 use Rattle.csi_codec.proofs.BackLemmas.{IsSingle, single_back, cursor_found, edit_found, count_back, count_tokens_back, pair_back, slots_plain}
 
--- ---- What is written for it is read as it
+-- ---- The encoding is read as its value
 
 clear_read : (known : TabulationClear) → cursor_reading (cursor_slots (variant.TabulationClear known)).1 (slots_tokens (cursor_slots (variant.TabulationClear known)).0) ≡ Some (variant.TabulationClear known)
 unfolding cursor_reading
@@ -100,7 +100,7 @@ edit_read (change.Repeat n) h = ap (option_map change.Repeat) (count_tokens_back
 edit_read (change.EraseInDisplay known) h = display_read known
 edit_read (change.EraseInLine known) h = line_read known
 
--- ---- And as no other
+-- ---- The encoding is read as no other value
 
 cursor_single : (c : Cursor) → IsSingle (cursor_slots c).1
 cursor_single variant.SaveCursor = record { other = refl; no_modes = refl }

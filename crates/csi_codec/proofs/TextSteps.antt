@@ -17,7 +17,7 @@ use Rattle.csi_codec.specs.declared.text.TheConstants.{NUMBERS}
 
 -- ---- Positions
 
--- where a text has room for so many more bytes, so has its array
+-- where a text has room for `more` bytes, so has its array
 pub has_room : (text bytes : List ℕ) (len more : ℕ) → text ≡ take len bytes → len ≤ length bytes → length text + more ≤ 32 → len + more ≤ 32
 has_room text bytes len more e h room = omega (arith, ap length e, length-take len bytes)
 

@@ -22,7 +22,7 @@ pub record Keeps (p : Parameters) (tokens : List CsiParam) : Type 0 where
   pub kept : p.tokens ≡ take most_tokens tokens
   pub more : p.truncated ≡ nat_lt most_tokens (length tokens)
 
--- what is kept where some tokens are whole and a number has begun
+-- the state of the parameters after some whole tokens and a number that has begun
 record Shows (p : Parameters) (whole : List CsiParam) (begun : Option ℕ) : Type 0 where
   keeps : Keeps p (whole ++ begun_token begun)
   number : p.number ≡ cut begun
@@ -43,13 +43,13 @@ length-one xs x = length-append xs (x ∷ [])
 
 -- one token more
 token_more : (p : Parameters) (ts : List CsiParam) (token : CsiParam) (number : Option ℕ) → Keeps p ts → Keeps (with_token p token number) (ts ++ token ∷ [])
-token_more p ts token number k = ⊎_elim few many (order (length ts) most_tokens)
+token_more p ts token number k = ⊎_elim below_most at_most (order (length ts) most_tokens)
   where
     order : (m n : ℕ) → (m < n) ⊎ (n ≤ m)
     order m n = cases_lt m n
 
-    few : length ts < most_tokens → Keeps (with_token p token number) (ts ++ token ∷ [])
-    few l =
+    below_most : length ts < most_tokens → Keeps (with_token p token number) (ts ++ token ∷ [])
+    below_most l =
         let all : p.tokens ≡ ts = k.kept ∙ take_all most_tokens ts (omega arith) in
         let room : nat_lt (length p.tokens) most_tokens ≡ true = let e = ap length all in grind (arith, nat_tests) in
         subst (λ (q : Parameters). Keeps q (ts ++ token ∷ [])) (sym (with_token_is p token number ∙ ap (λ (t : Bool). with_one t p token number) room))
@@ -58,8 +58,8 @@ token_more p ts token number k = ⊎_elim few many (order (length ts) most_token
           more = k.more ∙ (let e = length-one ts token in grind (arith, nat_tests));
         })
 
-    many : most_tokens ≤ length ts → Keeps (with_token p token number) (ts ++ token ∷ [])
-    many l =
+    at_most : most_tokens ≤ length ts → Keeps (with_token p token number) (ts ++ token ∷ [])
+    at_most l =
         let full : length p.tokens ≡ most_tokens = ap length k.kept ∙ length-take-le most_tokens ts l in
         let none : nat_lt (length p.tokens) most_tokens ≡ false = grind (arith, nat_tests) in
         subst (λ (q : Parameters). Keeps q (ts ++ token ∷ [])) (sym (with_token_is p token number ∙ ap (λ (t : Bool). with_one t p token number) none))

@@ -1,4 +1,4 @@
--- What is written for a value that can be written are spellable parameters and a final byte.
+-- The encoding of a value that can be written: parameters that bytes can encode, and a final byte.
 use Rattle.std.proofs.Common.{◌≡◌, ℕ, ◌≤◌, leb, true, [], ◌∷◌, arith, refl}
 use Rattle.std.proofs.lemmas.Bool.{leb-true, le-leb}
 use Rattle.csi_codec.specs.declared.cursors.Cursor.{Cursor}
@@ -25,7 +25,7 @@ use Rattle.csi_codec.proofs.ModeBack.{private_within, standard_within}
 use Rattle.csi_codec.proofs.ShapeLemmas.{Target, foreground}
 use Rattle.csi_codec.proofs.SgrForms.{EachWritten, number_of, sgr_tokens-each}
 
--- an action's parameters can be spelled by bytes, and its final byte is one
+-- an action's parameters can be encoded in bytes, and its final byte is a final byte (64 to 126)
 pub record IsWritten (a : Action) : Type 0 where
   pub params : is_spellable (spelling_of a).params ≡ true
   pub low : 64 ≤ (spelling_of a).control

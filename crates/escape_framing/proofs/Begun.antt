@@ -1,4 +1,4 @@
--- What lemmas say of what is held: whether a body is open, and how many bytes of a character have begun.
+-- Facts on held states that lemmas use: whether a body is open, and how many bytes of a character have begun.
 use Rattle.std.specs.Prelude.{ℕ, Bool, true, false, length}
 use Rattle.escape_framing.specs.Held.{Kept, InCharacter, InCommand, InDevice, InString}
 

@@ -1,4 +1,4 @@
--- A text that begins where something is open: what it cuts off or breaks.
+-- A text that begins where a sequence or a character is open: it cuts the sequence off, or breaks the character.
 use Rattle.std.proofs.Common.{◌≡◌, ◌≢◌, ℕ, ◌+◌, ◌/◌, ◌%◌, ◌<◌, ◌≤◌, inl, inr, Bool, true, false, List, [], ◌∷◌, ◌++◌, refl, sym, ap, subst, ◌∙◌, arith, ⊎_elim}
 use Rattle.std.specs.Prelude.{nat_le}
 use Rattle.std.proofs.lemmas.Bool.Decides.{nat_tests}
@@ -21,7 +21,7 @@ use Rattle.std.proofs.lemmas.Bool.{cases_eq, false_from_ne_true, or_right, le-le
 
 -- ---- the first byte of a character
 
--- what the first bytes of a character to lend are
+-- the first bytes of a character to lend: they begin with no continuation byte, and with no C1 control
 pub record Lead (b : ℕ) (rest : List ℕ) : Type 0 where
   pub outer : Inner b → ⊥
   pub after : b ≡ 0xC2 → (y : ℕ) × (remaining : List ℕ) × (rest ≡ y ∷ remaining) × (0x9F < y) × (y ≢ 0xC2)
@@ -54,7 +54,7 @@ lead_of c b rest more l e = by_kind (spelled c l.0)
 
 -- ---- a character that has begun is broken
 
--- what a byte does, and U+FFFD first
+-- the step of a byte, with U+FFFD printed first
 abbrev pub broken_step : Handed → Handed
 broken_step h = record { dispatches = Print 0xFFFD ∷ h.dispatches; held = h.held }
 
@@ -82,7 +82,7 @@ kept_breaks k true b s h z n = lead_breaks k b s h n
 kept_breaks (InCharacter (x ∷ p)) false b s h z n = ⊎_elim (λ e. cc) (λ g. bytes_break x p b g n) s.0
 kept_breaks _ false b s h z n = absurd (z refl)
 
--- the same dispatches, and the same is held
+-- the bytes hand out `ds` first, and from then on the same dispatches as from h', and leave the same held state
 pub record GoesOn (h : Held) (bytes : List ℕ) (ds : List Framed) (h' : Held) : Type 0 where
   pub lends : (start count : ℕ) → framed_after start count h bytes ≡ ds ++ framed_after start count h' bytes
   pub keeps : (hand_out h bytes).held ≡ (hand_out h' bytes).held
@@ -99,7 +99,7 @@ pub text_breaks_at : (h : Held) (b : ℕ) (rest : List ℕ) (c : ℕ) (more : Li
     → held_step h b ≡ broken_step (held_step nothing_held b)
 text_breaks_at h b rest c more r o z l e = kept_breaks h.kept h.waiting b (reached_sound h r) o z (lead_of c b rest more l e).outer
 
--- ---- what is open before its final byte is cut off
+-- ---- a sequence that is open before its final byte is cut off
 
 same_goes : (h : Held) (b : ℕ) (rest : List ℕ) → held_step h b ≡ held_step nothing_held b → GoesOn h (b ∷ rest) [] nothing_held
 unfolding placed_after hand_out
@@ -152,7 +152,7 @@ kept_cut (InControlSequence p) false b rest s h z l lead = cut_goes (InControlSe
 kept_cut (InHeader header) false b rest s h z l lead = cut_goes (InHeader header) b rest refl (l refl) refl (λ x e. header_cut header x e) tt lead
 kept_cut _ w b rest s h z l lead = cc
 
--- a text cuts what is open before its final byte off
+-- a text cuts off a sequence that is open before its final byte
 pub text_cuts : (h : Held) (b : ℕ) (rest : List ℕ) (c : ℕ) (more : List ℕ) → IsReached h → is_body h.kept ≡ false → begun_bytes h ≡ [] → (is_character h.kept ≡ false → 128 ≤ b) → IsLendable c → b ∷ rest ≡ encode c ++ more
     → GoesOn h (b ∷ rest) [] nothing_held
 text_cuts h b rest c more r o z l t e = kept_cut h.kept h.waiting b rest (reached_sound h r) o z l (lead_of c b rest more t e)

@@ -1,4 +1,4 @@
--- What the characters keep and hand out, over plain lists.
+-- The bytes that `Characters` keeps and the dispatches that it hands out, over plain lists.
 use Rattle.std.proofs.Common.{◌≡◌, ◌≢◌, ℕ, zero, suc, ◌+◌, ◌<◌, ◌≤◌, inl, inr, List, [], ◌∷◌, ◌++◌, length, take, set, refl, sym, ap, subst, ◌∙◌, arith}
 use Rattle.std.specs.Prelude.{is_none}
 use Rattle.std.specs.Str.{is_utf8}
@@ -31,9 +31,9 @@ filled [] n h l e = absurd (omega arith)
 filled (x ∷ xs) zero h l e = h refl
 filled (x ∷ xs) (suc n) h l e = cc
 
--- ---- what is kept
+-- ---- the bytes that are kept
 
--- what waits is the beginning of a character
+-- the kept bytes are none, or the beginning of a character
 kept_begun : (t : Tail) (x : List ℕ) → kept_of t ≡ InCharacter x → IsUnfinished t → IsUnfinished (Begun x)
 kept_begun (Begun bytes) x e g = subst (λ l. IsUnfinished (Begun l)) (let k : bytes ≡ x = cc in k) g
 kept_begun _ x e g = cc
@@ -50,7 +50,7 @@ begun_more l bytes b g e k = let h = subst (λ m. IsUnfinished (Begun m)) (sym e
     by_outcome (begun h u v) = h
     by_outcome (broken f u v) = let w = sym (ap (λ m. is_none (utf8_error_len m)) e) ∙ k.1 in cc
 
--- ---- what is handed out
+-- ---- the dispatches that are handed out
 
 pub waits_goes : (o : Own) (l v : List ℕ) (b : ℕ) → o ≡ own.Waits → l ≡ b ∷ [] → v ≡ [] → steps [] (InCharacter (b ∷ [])) ≡ character_step [] b → step_of o l ≡ character_step v b
 waits_goes o l v b is prefix none e =

@@ -1,4 +1,4 @@
--- The plain reading of characters, ill-formed pieces and controls.
+-- The plain reading of characters, ill-formed bytes and controls.
 use Rattle.std.proofs.Common.{◌≡◌, ◌≢◌, ℕ, ◌<◌, inl, inr, true, false, List, [], ◌∷◌, ◌++◌, refl, sym, ap, subst, ◌∙◌, arith, append_assoc, ⊎_elim}
 use Rattle.std.specs.Prelude.{◌==◌, is_none}
 use Rattle.std.specs.Char.{IsScalar, is_ascii_control}
@@ -41,7 +41,7 @@ waits_begun p b g (c, more, s, e, n, m) = by_outcome p (c, more, s, e, n, m) (ou
     by_outcome [] h (begun k u v) = waits_first b h u v
     by_outcome (x ∷ p) h (begun k u v) = rw (u, v) refl
 
--- the first bytes of a character are read as they stand
+-- more of the first bytes of a character are added to those that have begun it
 reads_prefix : (p q rest : List ℕ) → IsUnfinished (Begun p) → (c : ℕ) (more : List ℕ) → IsScalar c → encode c ≡ (p ++ q) ++ more → more ≢ [] → read_on (Begun p) (q ++ rest) ≡ read_on (Begun (p ++ q)) rest
 reads_prefix p [] rest g c more s e m = ap (λ l. read_on (Begun l) rest) (sym (append_nil p))
 reads_prefix p (b ∷ q) rest g c more s e m =
@@ -134,7 +134,7 @@ reads_control b f h =
     let s : IsScalar b = low_scalar b (omega arith) in
     ap (λ m. read_on (Begun []) (m ++ f)) (sym (encode_ascii b l)) ∙ reads_scalar b f s n ∙ ap (λ (s : Segment). after s (read_on (Begun []) f)) (control_segment (encode b) b h)
 
--- ---- an ill-formed piece
+-- ---- an ill-formed sequence of bytes
 
 pub breaks_first : (b : ℕ) → (BeginsCharacter (b ∷ []) → ⊥) → first_byte b ≡ ends (IllFormed (b ∷ []))
 unfolding first_byte

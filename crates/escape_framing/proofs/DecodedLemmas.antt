@@ -1,4 +1,4 @@
--- What `decode_utf8` gives are the characters that encode to these bytes.
+-- The character that `decode_utf8` gives encodes to these bytes.
 use Rattle.std.proofs.Common.{◌≡◌, ◌≢◌, ℕ, suc, ◌+◌, ◌<◌, ◌≤◌, inl, inr, true, Some, None, List, [], ◌∷◌, ◌++◌, length, take, refl, sym, ap, subst, ◌∙◌, arith}
 use Rattle.std.specs.Prelude.{slice_index}
 use Rattle.std.specs.Char.{IsScalar}
@@ -16,9 +16,9 @@ use Rattle.escape_framing.specs.Framed.{IsText, no_text, text_of, IsCharacterLen
 use Rattle.escape_framing.proofs.Existence.Utf8Lemmas.{two_bytes, three_bytes, four_bytes}
 use Rattle.std.proofs.lemmas.Bool.{cond_both}
 
--- ---- what is decoded is what was encoded
+-- ---- decoding gives the character that was encoded
 
--- the bytes begin with the encoding of a character, which has so many bytes
+-- the bytes begin with the encoding of a character, which has n bytes
 abbrev pub Begins : List ℕ → ℕ → ℕ → Type 0
 Begins bytes c n = (more : List ℕ) × IsScalar c × (bytes ≡ encode c ++ more) × (length (encode c) ≡ n)
 
@@ -29,7 +29,7 @@ encoded bytes more d c n s e h =
     let same : d ≡ c = cc in
     subst (λ (v : ℕ). Begins bytes v n) same (more, s, e, ap (λ (p : Decoded). p.size) k)
 
--- the bytes of a character of so many bytes
+-- the bytes are the encoding of a character
 abbrev Encodes : List ℕ → Type 0
 Encodes bytes = (c : ℕ) × IsScalar c × (encode c ≡ bytes)
 
@@ -42,7 +42,7 @@ three x y z l m s k = three_bytes x y z l m (λ e. grind (arith, nat_tests)) (λ
 four : (x y z w : ℕ) → 0xF0 ≤ x → x ≤ 0xF4 → second x y ≡ true → continues z ≡ true → continues w ≡ true → Encodes (x ∷ y ∷ z ∷ w ∷ [])
 four x y z w l m s k i = four_bytes x y z w l m (λ e. grind (arith, nat_tests)) (λ e. grind (arith, nat_tests)) (grind (arith, nat_tests)) (grind (arith, nat_tests)) (grind (arith, nat_tests)) (grind (arith, nat_tests)) (grind (arith, nat_tests)) (grind (arith, nat_tests))
 
--- so many bytes at the start
+-- the encoding of a character at the start
 prefix : (bytes xs more : List ℕ) (c n : ℕ) → Encodes xs → bytes ≡ xs ++ more → decoded bytes ≡ good c n → Begins bytes c n
 prefix bytes xs more c n t e h = encoded bytes more t.0 c n t.1 (e ∙ ap (λ (b : List ℕ). b ++ more) (sym t.2)) h
 
@@ -100,7 +100,7 @@ plain_text (b ∷ bytes) = cond_both (is_printable b) _ _ (λ n. IsText (take n 
     subst IsText (sym s) (text_of b (take (prefix_len is_printable bytes) bytes) (low_scalar b (omega arith), inl r, λ z. omega arith) (plain_text bytes)))
     (λ e. no_text)
 
--- at least one stands there
+-- a run of one printable character or more
 pub plain_run : (bytes : List ℕ) (b : ℕ) (rest : List ℕ) (n : ℕ) → bytes ≡ b ∷ rest → is_printable b ≡ true → n ≡ prefix_len is_printable bytes → IsRunLen bytes n
 plain_run bytes b rest n s p e =
     let k : prefix_len is_printable bytes ≡ 1 + prefix_len is_printable rest = ap (prefix_len is_printable) s ∙ rw p refl in

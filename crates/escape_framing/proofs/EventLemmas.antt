@@ -1,4 +1,4 @@
--- What a byte of the stream does that is read or left, over plain variables.
+-- The effect of a byte of the stream that is read or left unread, over plain variables.
 use Rattle.std.proofs.Common.{◌≡◌, ℕ, ◌-◌, ◌<◌, ◌≤◌, ◌⊎◌, inl, inr, Bool, true, false, List, [], ◌∷◌, ◌++◌, Option, Some, None, refl, sym, ap, subst, ◌∙◌, arith, append_assoc, Result, Ok, Err}
 use Rattle.std.specs.Prelude.{◌==◌, not, OnErr}
 use Rattle.text_clusters.specs.Controls.{is_c1}
@@ -43,7 +43,7 @@ escape_opens k g = ap (λ (x : Kept). kept_step x 0x1B) (escape_read k g) ∙ fi
 pub escape_kept : (k new : Kept) (ds : List Dispatch) (r : Bool) → GoesOn k 0x1B → r ≡ true → kept_step k 0x1B ≡ resumed ds new r 0x1B → new ≡ InEscape []
 escape_kept k new ds r g z e = ap (λ (s : Step). s.kept) (sym (e ∙ ap (λ (x : Bool). resumed ds new x 0x1B) z) ∙ escape_opens k g)
 
--- what a C2 that is read hands out is itself, as a byte of data
+-- the dispatch of a C2 that is read is the C2 itself, as a byte of data
 abbrev IsData : Dispatch → Kept → Type 0
 IsData d new = (d ≡ Data 0xC2) × (new ≡ InDevice)
 
@@ -143,7 +143,7 @@ other_read : (old new : Held) (b : ℕ) (ds : List Dispatch) → old.waiting ≡
 unfolding held_step
 other_read old new b ds w v c e = rw v (other_at old b w c ∙ ap (λ (plain : Step). handed_after plain (fresh_step plain.kept b)) e)
 
--- or it hands nothing out, and the byte does what it does after that
+-- or the C2 hands nothing out, and the byte has its own effect after it
 pub other_goes : (old : Held) (middle : Kept) (b : ℕ) (l : Lending) (e : Option Event) (r : Bool) (h : Handed) → old.waiting ≡ true → is_c1 0xC2 b ≡ false → e ≡ None → r ≡ true → l.held.kept ≡ middle → kept_step old.kept 0xC2 ≡ resumed (handed_out l e) l.held.kept r 0xC2 → fresh_step middle b ≡ h
     → held_step old b ≡ h
 other_goes old middle b l e r h w c n z m f g =
@@ -151,7 +151,7 @@ other_goes old middle b l e r h w c n z m f g =
     ∙ ap (λ (plain : Step). handed_after plain (fresh_step plain.kept b)) (f ∙ (λ i. resumed (handed_out l (n i)) (m i) (z i) 0xC2))
     ∙ g
 
--- ---- what is left after a C2
+-- ---- a byte that is left unread after a C2
 
 -- a C2 that breaks off a sequence, or ESC
 waiting_left : (old new : Held) (b : ℕ) (e : Option Event) → old.waiting ≡ true → new.waiting ≡ old.waiting → (is_c1 0xC2 b ≡ true) ⊎ (takes_text old b ≡ true) → IsLeft old.kept e new.kept → IsHeldLeft old b e new

@@ -1,4 +1,4 @@
--- What one byte is that nothing waits for, by its range.
+-- The reading of one byte where nothing is open, by the range of the byte.
 use Rattle.std.proofs.Common.{◌≡◌, ◌≢◌, ℕ, ◌+◌, ◌/◌, ◌<◌, ◌≤◌, ◌⊎◌, inl, inr, List, [], ◌∷◌, refl, sym, ap, ◌∙◌, arith, ⊎_elim}
 use Rattle.std.specs.Char.{IsScalar}
 use Rattle.std.specs.List.{flat_map}
@@ -12,7 +12,7 @@ use Rattle.escape_framing.specs.Held.{InCharacter, InEscape, kept_of, steps, cha
 use Rattle.escape_framing.proofs.Existence.Utf8Lemmas.{Spelled, in_one, in_two, in_three, in_four, spelled, lead_wants, begins_one, is_text}
 use Rattle.escape_framing.proofs.CharacterReading.{ends_first, plain_segment, control_segment, waits_begun, breaks_first}
 
--- what a reading of one byte hands out
+-- the dispatches of the reading of one byte
 of_reading : (b : ℕ) (r : Reading) → first_byte b ≡ r → character_step [] b ≡ steps (flat_map dispatches_of r.segments) (kept_of r.tail)
 unfolding character_step in_character
 of_reading b r e = ap (λ (x : Reading). steps (flat_map dispatches_of x.segments) (kept_of x.tail)) e

@@ -1,10 +1,10 @@
--- Where the texts of a call stand.
+-- The offsets at which the texts of a call begin.
 use Rattle.std.proofs.Common.{◌≡◌, ℕ, ◌+◌, ◌-◌, ◌≤◌, true, false, List, [], ◌∷◌, ◌++◌, length, refl, arith}
 use Rattle.std.specs.Prelude.{◌==◌, encode_utf8}
 use Rattle.escape_framing.specs.Framed.{Framed, Text, Single, is_lent, put_text, put_character, IsLendable}
 use Rattle.std.proofs.lemmas.Bool.{cond_both, ne_eqb, eq-eqb, le-leb}
 
--- the first text, if one stands first, begins after so many bytes
+-- a text that is the first item begins at offset n or later
 abbrev pub BeginsFrom : ℕ → List Framed → Type 0
 BeginsFrom n [] = Unit {0}
 BeginsFrom n (Single d ∷ rest) = Unit {0}
@@ -18,11 +18,11 @@ put_begins n from text (Text next more ∷ rest) l = cond_both (next == from + l
 pub never_lent : (start offset c : ℕ) → c ≡ 0xFFFD → is_lent start offset c ≡ false
 never_lent start offset c e = rw e refl
 
--- a print of so many bytes
+-- a printed character whose bytes begin at offset n or later
 pub print_begins : (n start offset c : ℕ) (rest : List Framed) → n + length (encode_utf8 c) ≤ offset → BeginsFrom n (put_character start offset c rest)
 print_begins n start offset c rest l = cond_both (is_lent start offset c) _ _ (BeginsFrom n) (λ e. put_begins n (offset - length (encode_utf8 c)) (encode_utf8 c) rest (omega arith)) (λ e. tt)
 
--- a text before others that don't go on with it
+-- a text before items that don't go on with it
 pub put_separate : (from : ℕ) (text : List ℕ) (rest : List Framed) → BeginsFrom (from + length text + 1) rest → put_text from text rest ≡ Text from text ∷ rest
 put_separate from text [] l = refl
 put_separate from text (Single d ∷ rest) l = refl

@@ -1,4 +1,4 @@
--- What is handed out byte by byte is what the cut of the stream decides.
+-- The dispatches that are handed out byte by byte are those that the cut of the stream decides.
 use Rattle.std.proofs.Common.{◌≡◌, ℕ, ◌-◌, ◌≤◌, inl, inr, Bool, true, false, cond, List, [], ◌∷◌, ◌++◌, length, drop, map, refl, sym, ap, subst, ◌∙◌, arith, append_assoc, ⊎_elim, ◌≢◌, ◌%◌, ◌/◌, ◌+◌}
 use Rattle.std.specs.Prelude.{◌==◌, ◌&&◌, not}
 use Rattle.std.specs.Char.{IsScalar}
@@ -60,7 +60,7 @@ inner c x b t more s e = by_kind (spelled c s)
 pub no_inner : (x b : ℕ) (p : List ℕ) → (Inner b → ⊥) → BeginsCharacter (x ∷ p ++ b ∷ []) → ⊥
 no_inner x b p n (c, more, s, e) = n (inner c x b p more s (e ∙ ap (λ r. x ∷ r) (append_assoc p (b ∷ []) more)))
 
--- a character that has begun ends before such a byte, and it may be ended first
+-- a begun character ends before a byte that doesn't go on with it: it may as well be interrupted before this byte
 pub interrupted_character : (x b : ℕ) (p : List ℕ) → IsBegun (x ∷ p) → (Inner b → ⊥) → before (interrupted (InCharacter (x ∷ p))).dispatches (kept_step (InCharacter []) b) ≡ kept_step (InCharacter (x ∷ p)) b
 unfolding character_step next_byte
 interrupted_character x b p g n =
@@ -125,13 +125,13 @@ no_escape i = let l = i.least in omega arith
 
 -- ---- the stream
 
--- what was handed out of a stream: all that its seven-bit form decides, or a C2 waits at its end
+-- the dispatches that were handed out of a stream: all that its seven-bit form decides, or a C2 waits at its end
 pub data At (s : List ℕ) (h : Handed) : Type 0 where
   at_rest : opens s ≡ false → ReadsTo (seven_bit s) h.dispatches h.held.kept → h.held.waiting ≡ false → At s h
   at_c2 : (v : List ℕ) (ds : List Dispatch) (kept : Kept) → seven_bit s ≡ v ++ 0xC2 ∷ [] → opens s ≡ true → ReadsTo v ds kept
       → h ≡ record { dispatches = ds ++ (interrupted kept).dispatches; held = record { kept = (interrupted kept).kept; waiting = true } } → At s h
 
--- after what was handed out
+-- dispatches, and then those that are handed out
 abbrev pub then_handed : List Dispatch → Handed → Handed
 then_handed ds h = record { dispatches = ds ++ h.dispatches; held = h.held }
 
@@ -145,7 +145,7 @@ fresh_at s b ds kept n r =
     opened : opens (s ++ b ∷ []) ≡ (b == 0xC2)
     opened = opens_more s b ∙ ap (λ (t : Bool). cond t false (b == 0xC2)) n
 
--- what an interrupted step hands out with the step after it
+-- an interruption and the step after it hand out the dispatches of the step alone
 joined : (ds : List Dispatch) (kept : Kept) (b : ℕ) (rest : Kept → Handed) → before (interrupted kept).dispatches (kept_step (interrupted kept).kept b) ≡ kept_step kept b
     → then_handed (ds ++ (interrupted kept).dispatches) (handed_after (kept_step (interrupted kept).kept b) (rest (kept_step (interrupted kept).kept b).kept))
     ≡ then_handed (ds ++ (kept_step kept b).dispatches) (rest (kept_step kept b).kept)
@@ -194,7 +194,7 @@ pub at_all : (s : List ℕ) → At s (hand_out nothing_held s)
 unfolding read_on
 at_all s = at_on s [] (record { dispatches = []; held = nothing_held }) (at_rest refl (record { gives = refl; keeps = refl }) refl)
 
--- ---- what the cut decides
+-- ---- the dispatches that the cut decides
 
 settled_push : (xs : List ℕ) → settled (xs ++ 0xC2 ∷ []) ≡ xs
 settled_push [] = refl
@@ -233,7 +233,7 @@ opens_last (x ∷ y ∷ s) = ⊎_elim (λ e. rw e (after_escape (seven_bit s) e 
     after_byte z [] = refl
     after_byte z (w ∷ s) = cond_both (is_c1 z w) _ _ (λ l. last_is_c2 (x ∷ l) ≡ last_is_c2 l) (λ e. refl) (λ e. refl)
 
--- where no C2 stands last, what is open has decided all that it was given
+-- where no C2 comes last, an open tail has decided all dispatches that it has handed out
 decided_all : (t : Tail) (prefix : List ℕ) → last_is_c2 (prefix ++ bytes_of_tail t) ≡ false → decided_of t ≡ given t
 decided_all (OpenDevice o header f body) prefix h =
     let e : last_is_c2 (f ∷ body) ≡ false = sym (last_after (prefix ++ (0x1B ∷ o ++ 0x50 ∷ header)) f body) ∙ ap last_is_c2 (append_assoc prefix (0x1B ∷ o ++ 0x50 ∷ header) (f ∷ body)) ∙ h in
@@ -269,14 +269,14 @@ pub c2_is_data : not (is_stop 0xC2) ≡ true
 unfolding is_stop
 c2_is_data = refl
 
--- what a reading decides
+-- the dispatches that a reading decides
 abbrev decides : Reading → List Dispatch
 decides r = flat_map dispatches_of r.segments ++ decided_of r.tail
 
 c2_cuts_off : (t : Tail) → is_before_final t ≡ true → decides (next_byte t 0xC2) ≡ decided_of t ++ []
 c2_cuts_off t h = ap decides (cut_off t 0xC2 h lead_cuts) ∙ ap (λ (r : Reading). decides (ends_before (CutOff t) r)) first_c2 ∙ append-nil _
 
--- a C2 that waits decides what an interruption does
+-- a C2 that waits decides the dispatches of an interruption
 c2_decides : (t : Tail) → IsUnfinished t → decides (next_byte t 0xC2) ≡ given t ++ (interrupted (kept_of t)).dispatches
 c2_decides (Begun []) g = ap decides c2_waits
 c2_decides (Begun (x ∷ p)) (inl e) = cc
@@ -309,7 +309,7 @@ decided_at s h (at_c2 v ds kept form o r e) = c2_rests s v ds kept form r ∙ sy
 pub decided : (s : List ℕ) → dispatches s ≡ (hand_out nothing_held s).dispatches
 decided s = decided_at s (hand_out nothing_held s) (at_all s)
 
--- ---- pieces
+-- ---- chunks
 
 pub hand_append : (h : Held) (x y : List ℕ) → hand_out h (x ++ y) ≡ then_handed (hand_out h x).dispatches (hand_out (hand_out h x).held y)
 unfolding hand_out
@@ -326,11 +326,11 @@ pub decided_append : (s x : List ℕ) → dispatches (s ++ x) ≡ dispatches s +
 decided_append s x =
     decided (s ++ x) ∙ ap (λ (h : Handed). h.dispatches) (hand_append nothing_held s x) ∙ ap (λ l. l ++ (hand_out (held_of s) x).dispatches) (sym (decided s))
 
--- what more bytes decide is what they hand out
+-- the dispatches that more bytes decide are those that these bytes hand out
 pub newly_handed : (s x : List ℕ) → newly_decided s x ≡ (hand_out (held_of s) x).dispatches
 newly_handed s x = ap (λ l. drop (length (dispatches s)) l) (decided_append s x) ∙ drop_at (dispatches s) (hand_out (held_of s) x).dispatches _ refl
 
--- what one byte more decides is what its step hands out
+-- the dispatches that one more byte decides are those of its step, and the held state after it is that of its step
 pub step_decides : (s : List ℕ) (b : ℕ) → (newly_decided s (b ∷ []) ≡ (held_step (held_of s) b).dispatches) × (held_of (s ++ b ∷ []) ≡ (held_step (held_of s) b).held)
 unfolding hand_out
 step_decides s b = (newly_handed s (b ∷ []) ∙ append-nil _, held_append s (b ∷ []))

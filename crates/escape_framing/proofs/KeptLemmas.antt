@@ -1,4 +1,4 @@
--- What is kept of what is open goes on as what is open does.
+-- The kept state of an open tail goes on as the tail does.
 use Rattle.std.proofs.Common.{◌≡◌, ℕ, Bool, true, false, cond, List, [], ◌∷◌, ◌++◌, take, map, refl, sym, ap, ◌∙◌, arith, append_assoc, ⊎_elim}
 use Rattle.std.specs.Prelude.{◌==◌, not, nat_lt, is_none, filter}
 use Rattle.std.specs.List.{flat_map, list_all, list_any}
@@ -21,17 +21,17 @@ use Rattle.escape_framing.specs.Held.{Kept, InCharacter, InEscape, InControlSequ
 use Rattle.csi_codec.proofs.TokenLemmas.{keeps_tokens}
 use Rattle.escape_framing.proofs.SequenceReading.{embedded_is_no_intermediate}
 
--- what is kept of parameter bytes is what their sequence hands out
+-- the kept parameters are those that their sequence hands out
 parameters_kept : (bytes : List ℕ) (final : ℕ) → dispatch.ControlSequence (parameters_of bytes).tokens (parameters_of bytes).truncated final ≡ control_sequence_dispatch bytes final
 unfolding control_sequence_dispatch
 parameters_kept bytes final = let k = keeps_tokens bytes in (λ i. dispatch.ControlSequence (k.kept i) (k.more i) final)
 
--- what is open has handed out where no C2 waits
+-- the dispatches that an open tail has handed out, where no C2 waits
 abbrev pub given : Tail → List Dispatch
 given (OpenDevice opening header final body) = controls_in opening ++ Enter (taken header) final ∷ map Data body
 given tail = decided_of tail
 
--- a reading hands out what a step does, after what was given, and keeps what the step keeps
+-- a reading hands out the dispatches of a step, after those of `prefix`, and keeps the state that the step keeps
 pub record Goes (prefix : List Dispatch) (r : Reading) (s : Step) : Type 0 where
   pub dispatches : flat_map dispatches_of r.segments ++ given r.tail ≡ prefix ++ s.dispatches
   pub kept : kept_of r.tail ≡ s.kept
@@ -89,7 +89,7 @@ goes_begun : (bytes : List ℕ) (b : ℕ) → Goes [] (next_byte (Begun bytes) b
 unfolding next_byte character_step
 goes_begun bytes b = record { dispatches = ap (λ l. flat_map dispatches_of (in_character bytes b).segments ++ l) (character_tails (λ t. given t ≡ []) (λ x. refl) refl bytes b) ∙ append-nil _; kept = refl }
 
--- a segment that ends before a byte, of which others are read
+-- a segment that ends before a byte, and the reading of this byte
 goes_before : (s : Segment) (prefix more : List Dispatch) (b : ℕ) → dispatches_of s ≡ prefix ++ more → Goes prefix (ends_before s (first_byte b)) (before more (character_step [] b))
 unfolding character_step in_character
 goes_before s prefix more b e = record {
@@ -102,7 +102,7 @@ goes_before s prefix more b e = record {
 goes_end : (s : Segment) (prefix more : List Dispatch) → dispatches_of s ≡ prefix ++ more → Goes prefix (ends s) (steps more (InCharacter []))
 goes_end s prefix more e = record { dispatches = append-nil _ ∙ append-nil _ ∙ e; kept = refl }
 
--- what stays open
+-- the tail stays open
 goes_on : (t : Tail) (prefix more : List Dispatch) (kept : Kept) → given t ≡ prefix ++ more → kept_of t ≡ kept → Goes prefix (waits t) (steps more kept)
 goes_on t prefix more kept e k = record { dispatches = e; kept = k }
 
@@ -162,7 +162,7 @@ goes_escape body b h = by_three (is_embedded b) (is_intermediate b) (is_cut b)
     (λ e f g. rw (e, f, g) (goes_before (CutOff (OpenEscape body)) (controls_in body) [] b (sym (append-nil _))))
     (λ e f g. rw (e, f, g) (goes_final body b h))
 
--- ---- the others
+-- ---- the other sequences
 
 goes_control_sequence : (o body : List ℕ) (b : ℕ) → Goes (controls_in o ++ controls_in body) (next_byte (OpenControlSequence o body) b) (control_sequence_step (parameters_of (taken body)) b)
 unfolding next_byte control_sequence_step

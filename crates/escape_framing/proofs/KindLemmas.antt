@@ -1,4 +1,4 @@
--- What `from_utf8` says of an unfinished tail and one byte more.
+-- The answer of `from_utf8` for an unfinished tail and one more byte.
 use Rattle.std.proofs.Common.{◌≡◌, ℕ, false, List, [], ◌∷◌, take, drop, ap, subst, ◌∙◌, Option, Some}
 use Rattle.std.specs.Prelude.{slice_get, slice_index}
 use Rattle.std.specs.Str.{IsUtf8, is_utf8, IsValidUpTo}

@@ -15,7 +15,7 @@ use Rattle.escape_framing.proofs.ReadLemmas.{after, read_after, read_append}
 use Rattle.escape_framing.proofs.UniqueLemmas.{reads_segment}
 use Rattle.std.proofs.lemmas.List.{nil_from_length}
 
--- ---- what is lengthened is open
+-- ---- bytes that can be lengthened are open
 
 pub lengthened_is_open : (bytes : List ℕ) → IsLengthened bytes → IsOpen bytes
 lengthened_is_open bytes g = by_segments (read_on (Begun []) bytes).segments refl
@@ -37,7 +37,7 @@ lengthened_is_open bytes g = by_segments (read_on (Begun []) bytes).segments ref
         let longer = ap length (ap bytes_of same ∙ g.is) in
         absurd (g.longer (nil_from_length g.more (omega (arith, count, longer, length-append (bytes_of s ++ flat_map bytes_of ss) (bytes_of_tail t), length-append (bytes_of s) (flat_map bytes_of ss), length-append bytes g.more))))
 
--- ---- what is open is lengthened
+-- ---- open bytes can be lengthened
 
 longer_character : (bytes : List ℕ) → IsBegun bytes → IsLengthened bytes
 longer_character bytes (c, more, s, e, n, m) = by_size (order 0x9F c)

@@ -63,7 +63,7 @@ at_offset n (x ∷ xs) zero offset dispatch h =
     let k : (n, x) ≡ (offset, dispatch) = cc in (ap (λ (p : ℕ × Dispatch). p.0) k, ap (λ (p : ℕ × Dispatch). Some p.1) k)
 at_offset n (x ∷ xs) (suc i) offset dispatch h = at_offset n xs i offset dispatch h
 
--- what is decided stands there, whatever follows
+-- a dispatch that is decided keeps its index, whatever bytes follow
 stands : (s x more : List ℕ) (i : ℕ) (dispatch : Dispatch) → slice_get (newly_decided s x) i ≡ Some dispatch
     → slice_get (dispatches ((s ++ x) ++ more)) (length (dispatches s) + i) ≡ Some dispatch
 stands s x more i dispatch h =

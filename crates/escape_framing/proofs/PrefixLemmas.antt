@@ -105,7 +105,7 @@ final_handed : (p : Parameters) (b : ℕ) → is_final b ≡ true → hand_out (
 unfolding hand_out held_step fresh_step control_sequence_step
 final_handed p b h = let e = final_not b h in rw (e.3, e.0, e.1, e.2) refl
 
--- parameter bytes after ESC [, of which so many stand there, and this final byte
+-- ESC [, n parameter bytes, and this final byte
 pub reads_sequence : (old : Held) (bytes remaining : List ℕ) (n b : ℕ) (rest : List ℕ) (l : Lending) → old ≡ nothing_held → l.held ≡ nothing_held → bytes ≡ 0x1B ∷ 0x5B ∷ remaining → n ≡ prefix_len is_parameter remaining
     → l.parameters ≡ fold with_byte no_parameters (take n remaining) → is_final b ≡ true → drop n remaining ≡ b ∷ rest → ReadsEvent old bytes (read.Bytes (Some (event.ControlSequence b)) (n + 3)) l
 reads_sequence old bytes remaining n b rest l o g is k p f d =

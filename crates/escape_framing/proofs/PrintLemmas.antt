@@ -31,14 +31,14 @@ none_append [] ys p q = q
 none_append (Print c ∷ xs) ys p q = absurd p
 none_append (_ ∷ xs) ys p q = none_append xs ys p q
 
--- What a byte after the first bytes of a character prints, with what is held then.
+-- The characters that a byte after the first bytes of a character prints, and the held state after it.
 pub data Ending (p : List ℕ) (b : ℕ) (ds : List Dispatch) (kept : Kept) (waiting : Bool) : Type 0 where
   goes_on : ds ≡ [] → bytes_begun kept waiting ≡ p ++ b ∷ [] → Ending p b ds kept waiting
   prints : (c : ℕ) → IsScalar c → IsPrintable c → encode c ≡ p ++ b ∷ [] → ds ≡ Print c ∷ [] → kept ≡ InCharacter [] → waiting ≡ false → Ending p b ds kept waiting
   quiet : PrintNone ds → begun_in kept ≡ 0 → waiting ≡ false → Ending p b ds kept waiting
   replaces : ds ≡ Print 0xFFFD ∷ [] → begun_in kept ≡ 0 → waiting ≡ false → Ending p b ds kept waiting
 
--- A byte does so, or it breaks them first.
+-- Either this, or the byte breaks the character: U+FFFD is printed first.
 pub data Printing (p : List ℕ) (b : ℕ) (ds : List Dispatch) (kept : Kept) (waiting : Bool) : Type 0 where
   whole_one : Ending p b ds kept waiting → Printing p b ds kept waiting
   breaks_one : (remaining : List Dispatch) → ds ≡ Print 0xFFFD ∷ remaining → Ending [] b remaining kept waiting → Printing p b ds kept waiting
@@ -117,7 +117,7 @@ pub final_quiet : (xs : List ℕ) (b : ℕ) → IsQuiet (final_step xs b)
 final_quiet [] b = cond_both (is_opener b) _ _ IsQuiet (λ e. (tt, opened_quiet b)) (λ e. (escape_quiet [] b, refl))
 final_quiet (x ∷ xs) b = (escape_quiet (x ∷ xs) b, refl)
 
--- a byte before the final one: it prints nothing, or cuts what is open off
+-- a byte before the final one: it prints nothing, or cuts the open sequence off
 pub data Before (b : ℕ) (s : Step) : Type 0 where
   is_quiet : IsQuiet s → Before b s
   cuts : is_cut b ≡ true → s ≡ character_step [] b → Before b s

@@ -31,7 +31,7 @@ use Rattle.escape_framing.proofs.PrefixLemmas.{reads_sequence}
 use Rattle.std.proofs.lemmas.Bool.{cases_Bool}
 use Rattle.std.proofs.lemmas.List.{map-append}
 
--- ---- an event that is left a byte stands alone
+-- ---- an event that leaves a byte unread is an item of its own
 
 event_alone : (l : Lending) (e : Option Event) (start offset : ℕ) (placed : List (ℕ × Dispatch)) → IsAlone e → framed start (at_offset offset (handed_out l e) ++ placed) ≡ map Single (handed_out l e) ++ framed start placed
 event_alone l None start offset placed a = refl
@@ -41,7 +41,7 @@ event_alone l (Some _) start offset placed a = refl
 at_both : (offset : ℕ) (xs ys : List Dispatch) (placed : List (ℕ × Dispatch)) → at_offset offset (xs ++ ys) ++ placed ≡ at_offset offset xs ++ (at_offset offset ys ++ placed)
 at_both offset xs ys placed = ap (λ l. l ++ placed) (map-append (λ (d : Dispatch). (offset, d)) xs ys) ∙ append_assoc (at_offset offset xs) (at_offset offset ys) placed
 
--- ---- what is held where a byte is left
+-- ---- the held state where a byte is left unread
 
 lead_reached : IsReached (record { kept = InCharacter []; waiting = true })
 unfolding hand_out held_step fresh_step
@@ -59,7 +59,7 @@ left_reached h (inl e) = ⊎_elim
     (λ w. subst IsReached (λ i. record { kept = sym e i; waiting = sym w i }) nothing_reached)
     (cases_Bool h.waiting)
 
--- ---- what has begun where a byte is left
+-- ---- the begun bytes of a character where a byte is left unread
 
 c1_high : (y : ℕ) → is_c1 0xC2 y ≡ true → y ≤ 0x9F
 c1_high y h = grind (arith, nat_tests)
@@ -196,7 +196,7 @@ kept_rest _ xs p q body e = cc
 abbrev shown : State → Bool → List ℕ → Parameters → List ℕ → Lending
 shown s w xs p body = record { held = record { kept = kept_as s xs p body; waiting = w }; parameters = p; body = body }
 
--- a control sequence that stands there whole
+-- a whole control sequence at the start of the bytes
 pub reads_whole : (old : Lending) (s : State) (w : Bool) (xs : List ℕ) (p q : Parameters) (body bytes remaining : List ℕ) (n control : ℕ) → shown s w xs p body ≡ old → old.held ≡ nothing_held → bytes ≡ 0x1B ∷ 0x5B ∷ remaining → n ≡ prefix_len is_parameter remaining
     → q ≡ fold with_byte no_parameters (take n remaining) → IsLastAt remaining n (Some control) → ReadsEvent old.held bytes (read.Bytes (Some (event.ControlSequence control)) (n + 3)) (shown s w xs q body)
 reads_whole old s w xs p q body bytes remaining n control v e is k t last =

@@ -6,11 +6,11 @@ use Rattle.escape_framing.specs.Segment.{Tail, Begun, Segment}
 use Rattle.escape_framing.specs.Decode.{Reading, waits, ends, ends_before, first_byte, in_character, next_byte, read_on}
 use Rattle.escape_framing.proofs.Existence.Utf8Lemmas.{append_nil}
 
--- what is read after a reading
+-- a reading that goes on with more bytes
 abbrev pub read_after : Reading → List ℕ → Reading
 read_after r bytes = let rest = read_on r.tail bytes in record { segments = r.segments ++ rest.segments; tail = rest.tail }
 
--- a segment, and what is read after it
+-- a segment before a reading
 abbrev pub after : Segment → Reading → Reading
 after s r = record { segments = s ∷ r.segments; tail = r.tail }
 

@@ -19,7 +19,7 @@ all_pass test [] = refl
 all_pass test (b ∷ xs) = cond_both (test b) _ _ (λ n. list_all test (take n (b ∷ xs)) ≡ true)
     (λ e. let k : 1 + prefix_len test xs ≡ suc (prefix_len test xs) = omega arith in rw k (rw e (all_pass test xs))) (λ e. refl)
 
--- So many bytes at the start hand nothing out, and leave no character begun.
+-- The first n bytes hand nothing out, and leave no character begun.
 pub record IsSilent (held : Held) (bytes : List ℕ) (n : ℕ) (after : Held) : Type 0 where
   pub within : n ≤ length bytes
   pub silent : (hand_out held (take n bytes)).dispatches ≡ []
@@ -99,7 +99,7 @@ plain_body : (b : ℕ) → is_printable b ≡ true → is_body_byte b ≡ true
 unfolding is_body_byte
 plain_body b h = grind (arith, nat_tests)
 
--- how many stand at the start: plain ones, and then others
+-- the number of body bytes at the start: printable ones, and then other body bytes
 pub body_run : (xs : List ℕ) → prefix_len is_printable xs + prefix_len is_body_byte (drop (prefix_len is_printable xs) xs) ≡ prefix_len is_body_byte xs
 body_run [] = refl
 body_run (b ∷ xs) = ⊎_elim

@@ -1,4 +1,4 @@
--- Where the segments of a stream stand.
+-- The offsets of the segments of a stream.
 use Rattle.std.proofs.Common.{◌≡◌, ℕ, zero, suc, ◌+◌, ◌-◌, true, false, Some, List, [], ◌∷◌, ◌++◌, length, take, drop, map, refl, sym, ap, subst, ◌∙◌, arith, zero-add, append_assoc, append-nil, length-append, ⊎_elim}
 use Rattle.std.specs.Prelude.{Contains}
 use Rattle.std.specs.List.{flat_map, slice_get}
@@ -44,7 +44,7 @@ segments_is : (s : List ℕ) → (the_cut s).segments ≡ (read_on (Begun []) (s
 unfolding the_cut
 segments_is s = refl
 
--- the bytes after such a stream are cut by themselves
+-- the bytes after a stream of which nothing is held are cut by themselves
 pub segments_join : (s x : List ℕ) → held_of s ≡ nothing_held → (the_cut (s ++ x)).segments ≡ (the_cut s).segments ++ (the_cut x).segments
 segments_join s x h =
     let form : seven_bit (s ++ x) ≡ seven_bit s ++ seven_bit x = seven_bit_join s x (idle_opens s (hand_out nothing_held s) (at_all s) h) in
@@ -79,7 +79,7 @@ segments_append n (x ∷ xs) ys =
 contains_at : (p : List (ℕ × Segment)) (x : ℕ × Segment) (ys : List (ℕ × Segment)) → Contains (p ++ x ∷ ys) x
 contains_at p x ys = (length p, omega (arith, length-append p (x ∷ ys)), get_or_at p x ys x (length p) refl)
 
--- the first segment after a stream of which nothing is held stands there
+-- the first segment after a stream of which nothing is held begins at the end of that stream
 pub stands_after : (s x left : List ℕ) (segment : Segment) (segments : List Segment) → held_of s ≡ nothing_held → held_of x ≡ nothing_held → segment ∷ segments ≡ (the_cut x).segments
     → Contains (placed_segments (s ++ (x ++ left))) (length s, segment)
 stands_after s x left segment segments h k e =

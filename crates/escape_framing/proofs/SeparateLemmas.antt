@@ -1,4 +1,4 @@
--- Between two texts that stand side by side lies a segment that hands nothing out.
+-- Between two neighbouring texts is a segment that hands nothing out.
 use Rattle.std.proofs.Common.{◌≡◌, ◌≢◌, ℕ, ◌+◌, ◌-◌, ◌≤◌, ◌⊎◌, inl, inr, true, false, List, [], ◌∷◌, ◌++◌, length, map, refl, sym, ap, subst, ◌∙◌, arith, append_assoc, append-nil, length-append, ⊎_elim}
 use Rattle.std.specs.Prelude.{◌==◌, not, nat_le, ◌||◌, encode_utf8, Contains}
 use Rattle.std.specs.Char.{IsScalar}
@@ -201,7 +201,7 @@ byte_hands_out stream b start offset =
     subst (λ (ds : List Dispatch). HandsOut start offset ds (held_of (stream ++ b ∷ []))) (sym d.0)
     (subst (λ (h : Held). HandsOut start offset (held_step (held_of stream) b).dispatches h) (sym d.1) (step_hands_out stream b start offset))
 
--- a character to lend is put before what follows
+-- a character to lend is put before the items after it
 lends_text : (start offset c : ℕ) (ds prefix : List Dispatch) (placed : List (ℕ × Dispatch)) → ds ≡ prefix ++ Print c ∷ [] → IsAlone start offset prefix → is_lent start offset c ≡ true
     → framed start (at_offset offset ds ++ placed) ≡ map Single prefix ++ put_text (offset - length (encode_utf8 c)) (encode_utf8 c) (framed start placed)
 lends_text start offset c ds prefix placed e a k =
@@ -258,7 +258,7 @@ first_is from text rest ds next more remaining e = by_dispatches ds (sym (put_be
     by_dispatches [] k = (refl, cc)
     by_dispatches (d ∷ ds) k = cc
 
--- Where a text stands once another was put before the items: it is that one, or it stood there and ended where it ends now.
+-- Where a text is once another was put before the items: it is that one, or it was there and ended where it ends now.
 data Put (first : ℕ) (characters : List ℕ) (rest : List Framed) (from : ℕ) (text : List ℕ) (remaining : List Framed) : Type 0 where
   is_put : remaining ≡ rest → first + length characters ≡ from + length text → ((next : ℕ) (more : List ℕ) (after : List Framed) → rest ≡ Text next more ∷ after → next ≢ first + length characters) → Put first characters rest from text remaining
   stood : (before : List Framed) (old : ℕ) (shown : List ℕ) → rest ≡ before ++ Text old shown ∷ remaining → old + length shown ≡ from + length text → Put first characters rest from text remaining
@@ -299,8 +299,8 @@ put_where first characters (Text next more ∷ rest) before from text remaining 
 
 -- ---- up to the next text
 
--- After a stream, the bytes hand these dispatches out, and then a text that begins after so many bytes: the first of them
--- are read up to its first character.
+-- After a stream, the bytes hand these dispatches out, and then a text that begins at offset `next`: the first bytes are
+-- read up to the first character of this text.
 record Reaches (prefix bytes : List ℕ) (ds : List Dispatch) (next : ℕ) : Type 0 where
   read : List ℕ
   left : List ℕ
@@ -349,7 +349,7 @@ reaches (b ∷ bytes) prefix start ds next more remaining e = by_step (byte_hand
 
 -- ---- between two texts
 
--- between the positions stands a segment, and what it hands out are the first of these dispatches
+-- between the offsets is a segment, and its dispatches are the first of these
 pub record IsBetween (stream : List ℕ) (from to : ℕ) (ds : List Dispatch) : Type 0 where
   pub segment : Segment
   pub lies : LiesBetween stream from to segment

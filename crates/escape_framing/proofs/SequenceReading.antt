@@ -1,4 +1,4 @@
--- The plain reading of sequences: it takes what is open as it stands, and ends each segment where it ends.
+-- The plain reading of sequences: the bytes of an open sequence read as this sequence, and each segment ends where its bytes end.
 use Rattle.std.proofs.Common.{◌≡◌, ℕ, Bool, true, false, List, [], ◌∷◌, ◌++◌, refl, sym, ap, ◌∙◌, arith, append_assoc, subst}
 use Rattle.std.specs.Prelude.{◌==◌, not}
 use Rattle.std.specs.List.{list_all, list_any}
@@ -46,7 +46,7 @@ no_intermediate : (xs : List ℕ) → list_all is_embedded xs ≡ true → list_
 no_intermediate [] h = refl
 no_intermediate (x ∷ xs) h = let k = and_parts (is_embedded x) (list_all is_embedded xs) h in rw (embedded_is_no_intermediate x k.0, no_intermediate xs k.1) refl
 
--- ---- what stays open
+-- ---- bytes that keep a sequence open
 
 pub stays_command : (o xs : List ℕ) (b : ℕ) → not (ends_command b) ≡ true → next_byte (OpenCommand o xs) b ≡ waits (OpenCommand o (xs ++ b ∷ []))
 unfolding next_byte
@@ -60,9 +60,9 @@ pub stays_string : (o : List ℕ) (x : ℕ) (xs : List ℕ) (b : ℕ) → not (i
 unfolding next_byte
 stays_string o x xs b e = let k = not-true (is_stop b) e in rw k refl
 
--- ---- what opens
+-- ---- bytes that open a sequence
 
--- a byte that opens something stands neither among intermediate bytes, nor cuts them off
+-- a byte that opens a sequence is no intermediate or embedded byte, and doesn't cut an escape sequence off
 opener_ends : (b : ℕ) → is_opener b ≡ true → Ends (in_escape b) b
 unfolding is_embedded is_stop is_intermediate is_cut is_opener is_string_opener
 opener_ends b h = record { outside = grind (arith, nat_tests); whole = grind (arith, nat_tests) }
@@ -79,7 +79,7 @@ opened_string o x h =
     let g : (x == 0x50) ≡ false = grind (arith, nat_tests) in
     rw (e, f, g) refl
 
--- ---- what is open is read as it stands
+-- ---- the bytes of an open sequence read as this sequence
 
 pub reads_escape : (body rest : List ℕ) → list_all in_escape body ≡ true → read_on (Begun []) (0x1B ∷ body ++ rest) ≡ read_on (OpenEscape body) rest
 unfolding next_byte in_character first_byte

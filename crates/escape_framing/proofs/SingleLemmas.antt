@@ -38,7 +38,7 @@ nothing_begun h e w = rw w (begun_none h.kept e)
 pub carried_none : (start count : ℕ) (h : Held) (rest : List ℕ) → begun_bytes h ≡ [] → IsCarried start count h rest
 carried_none start count h rest e = record { carried = λ c more l k n. absurd (n e) }
 
--- the dispatches of one byte stand alone, and what has begun after it began before the call, if it can be lent
+-- each dispatch of one byte is an item of its own, and a character begun after it began before the call, if it can be lent
 pub record StandAlone (start count : ℕ) (h : Held) (rest : List ℕ) (ds : List Dispatch) : Type 0 where
   pub alone : IsAlone start count ds
   pub carried : IsCarried start count h rest
@@ -121,11 +121,11 @@ none_begins n start offset (d ∷ ds) placed p h = tt
 alone_begins : (n start offset c : ℕ) (ds : List Dispatch) (placed : List (ℕ × Dispatch)) → is_lent start offset c ≡ false → BeginsFrom n (framed start (at_offset offset (Print c ∷ ds) ++ placed))
 alone_begins n start offset c ds placed e = rw e tt
 
--- so many bytes have been read before what is held of a character, or that can't become a character to lend
+-- the bytes that have begun a character begin at offset n or later; or these and the rest begin no text, and n is at most count + 1
 abbrev pub IsLate : ℕ → ℕ → List ℕ → List ℕ → Type 0
 IsLate n count begun rest = (n + length begun ≤ count) ⊎ ((n ≤ count + 1) × BeginsNoText (begun ++ rest))
 
--- then no text begins before so many bytes
+-- then no text begins before offset n
 pub begins_late : (rest stream : List ℕ) (start count n : ℕ) → IsLate n count (begun_bytes (held_of stream)) rest → BeginsFrom n (framed_after start count (held_of stream) rest)
 unfolding placed_after
 begins_late [] stream start count n l = tt

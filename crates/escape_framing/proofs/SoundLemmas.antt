@@ -1,4 +1,4 @@
--- What a byte of a stream prints after what is held of it.
+-- The characters that a byte of a stream prints after the held state.
 use Rattle.std.proofs.Common.{◌≡◌, ℕ, ◌-◌, inl, inr, Bool, true, false, List, [], ◌∷◌, ◌++◌, refl, sym, ap, subst, ◌∙◌, arith, append-nil, ⊎_elim}
 use Rattle.std.specs.Prelude.{◌==◌}
 use Rattle.std.proofs.lemmas.Bool.{cond_both, cases_Bool, eqb-true}
@@ -16,7 +16,7 @@ use Rattle.escape_framing.proofs.HeldLemmas.{At, at_rest, at_c2, at_all, unfinis
 use Rattle.escape_framing.proofs.TextLemmas.{lead_kept}
 use Rattle.escape_framing.proofs.PrintLemmas.{PrintNone, none_append, goes_on, quiet, Printing, whole_one, breaks_one, Prints, first_character, character_prints, IsQuiet, Before, is_quiet, cuts, escape_before, control_sequence_before, header_before, body_quiet}
 
--- ---- what is held of a stream
+-- ---- the held state of a stream
 
 -- the first bytes of a character begin one, and none is held where a C2 waits
 abbrev pub IsSoundIn : Kept → Bool → Type 0
@@ -42,7 +42,7 @@ stream_sound s = at_sound s (hand_out nothing_held s) (at_all s)
 pub reached_sound : (h : Held) → IsReached h → IsSoundIn h.kept h.waiting
 reached_sound h (s, e) = subst (λ (x : Held). IsSoundIn x.kept x.waiting) (sym e) (stream_sound s)
 
--- ---- ESC and C2 after what is kept
+-- ---- ESC and C2 after a kept state
 
 record Escapes (k : Kept) : Type 0 where
   kept : (kept_step k 0x1B).kept ≡ InEscape []

@@ -1,4 +1,4 @@
--- Texts are their characters, and stand apart.
+-- Texts are their characters, and no text begins where another one ends.
 use Rattle.std.proofs.Common.{◌≡◌, ℕ, ◌+◌, List, [], ◌∷◌, ◌++◌, length, map, refl, sym, ap, ◌∙◌, arith, append-nil, length-append, ◌-◌}
 use Rattle.std.specs.Prelude.{◌==◌, encode_utf8}
 use Rattle.escape_framing.specs.Dispatch.{Dispatch, Print}
@@ -55,7 +55,7 @@ framed_separate start [] = tt
 framed_separate start ((n, Print c) ∷ placed) = character_separate start n c (framed start placed) (framed_separate start placed)
 framed_separate start ((n, _) ∷ placed) = framed_separate start placed
 
--- ---- what is held is enough for the positions too
+-- ---- the held state determines the offsets too
 
 pub placed_same : (bytes stream : List ℕ) → placed_after (length stream) (held_of stream) bytes ≡ placed_from stream bytes
 unfolding placed_after

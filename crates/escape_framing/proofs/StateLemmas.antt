@@ -1,4 +1,4 @@
--- A byte that cuts off what a framer has open.
+-- A byte that cuts off the sequence that a framer has open.
 use Rattle.std.proofs.Common.{◌≡◌, ℕ, true, false, [], ◌∷◌, Some, None, sym, ap, ◌∙◌}
 use Rattle.std.specs.Prelude.{not}
 use Rattle.escape_framing.specs.Bytes.{is_stop}
@@ -9,7 +9,7 @@ use Rattle.escape_framing.specs.Event.{handed_out, resumed}
 use Rattle.escape_framing.specs.declared.event.Event.TheVariants as event
 use Rattle.escape_framing.specs.declared.states.Stepped.{Stepped}
 
--- what is open is closed
+-- the state with nothing open
 abbrev pub closed : Lending → Lending
 closed old = record old { held = record old.held { kept = InCharacter [] } }
 

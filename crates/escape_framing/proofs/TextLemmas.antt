@@ -51,14 +51,14 @@ whole_step c b p s h e g =
 
 -- ---- after the first byte
 
--- the placed dispatches of bytes, and what is held after them
+-- the placed dispatches of bytes, and the held state after them
 abbrev Both : Type 0
 Both = List (ℕ × Dispatch) × Held
 
 abbrev both : ℕ → Held → List ℕ → Both
 both count held bytes = (placed_after count held bytes, (hand_out held bytes).held)
 
--- a character that is printed, before what bytes do after it
+-- a character that is printed, before the dispatches of the bytes after it
 abbrev printed : ℕ → ℕ → List ℕ → Both
 printed count c bytes = ((count, Print c) ∷ placed_after count nothing_held bytes, (hand_out nothing_held bytes).held)
 

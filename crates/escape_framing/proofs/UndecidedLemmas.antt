@@ -1,4 +1,4 @@
--- From what is held a stream can go on in two ways whose next dispatches differ.
+-- After each held state a stream can go on in two ways whose next dispatches differ.
 use Rattle.std.proofs.Common.{◌≡◌, ◌≢◌, ℕ, ◌-◌, ◌+◌, ◌/◌, ◌<◌, ◌≤◌, ◌⊎◌, inl, inr, ⊎_elim, Bool, true, false, List, [], ◌∷◌, ◌++◌, refl, sym, ap, subst, ◌∙◌, arith, append_assoc}
 use Rattle.std.specs.Prelude.{◌==◌}
 use Rattle.std.specs.Char.{IsScalar}
@@ -25,7 +25,7 @@ pub data AreSeparate (first second : Dispatch) : Type 0 where
   data_bytes : (a b : ℕ) → first ≡ Data a → second ≡ Data b → a ≢ b → AreSeparate first second
   goes_on : (b : ℕ) → first ≡ Exit → second ≡ Data b → AreSeparate first second
 
--- two ways to go on from what is held
+-- two continuations of a held state whose first dispatches differ
 pub record Differs (h : Held) : Type 0 where
   pub one : List ℕ
   pub other : List ℕ
@@ -67,7 +67,7 @@ cancel = first_control 0x18 (inl (omega arith)) (λ e. absurd (omega arith))
 substitute : character_step [] 0x1A ≡ steps (Control 0x1A ∷ []) (InCharacter [])
 substitute = first_control 0x1A (inl (omega arith)) (λ e. absurd (omega arith))
 
--- what CAN and SUB end without a dispatch of its own
+-- CAN and SUB end the kept state without a dispatch of its own
 record Cancels (kept : Kept) : Type 0 where
   at_cancel : kept_step kept 0x18 ≡ character_step [] 0x18
   at_substitute : kept_step kept 0x1A ≡ character_step [] 0x1A

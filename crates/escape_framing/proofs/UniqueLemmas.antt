@@ -1,4 +1,4 @@
--- A stream has one cut: the plain reading of joined segments and what is unfinished gives just these.
+-- A stream has one cut: the plain reading of joined segments and an unfinished tail gives exactly these.
 use Rattle.std.proofs.Common.{◌≡◌, ℕ, List, [], ◌∷◌, ◌++◌, sym, ap, ◌∙◌, append_assoc}
 use Rattle.std.specs.List.{flat_map}
 use Rattle.escape_framing.specs.Segment.{Tail, Begun, OpenEscape, OpenControlSequence, OpenCommand, OpenHeader, OpenDevice, OpenString, bytes_of_tail, Segment, Character, IllFormed, Control, Escape, ControlSequence, OperatingSystemCommand, DeviceControl, String, CutOff, bytes_of, IsUnfinished, IsSegment, StandInRow, IsCut}
@@ -10,7 +10,7 @@ use Rattle.escape_framing.proofs.CharacterReading.{reads_begun, reads_character,
 use Rattle.escape_framing.proofs.SequenceReading.{reads_whole_escape, reads_whole_control_sequence, reads_whole_command, reads_whole_device, reads_whole_string, reads_escape, reads_control_sequence, reads_command, reads_header, reads_device, reads_string, cut_off, ends_at}
 use Rattle.escape_framing.specs.Bytes.{is_cut}
 
--- what is unfinished is read as it stands
+-- the bytes of an unfinished tail read as this tail
 pub reads_tail : (t : Tail) (rest : List ℕ) → IsUnfinished t → read_on (Begun []) (bytes_of_tail t ++ rest) ≡ read_on t rest
 reads_tail (Begun bytes) rest g = reads_begun bytes rest g
 reads_tail (OpenEscape body) rest g = reads_escape body rest g
@@ -23,7 +23,7 @@ reads_tail (OpenString o x body) rest g = reads_string o x body rest g
 reads_cut_off : (t : Tail) (f : List ℕ) → IsSegment (CutOff t) f → read_on (Begun []) (bytes_of (CutOff t) ++ f) ≡ after (CutOff t) (read_on (Begun []) f)
 reads_cut_off t f g = reads_tail t f g.0 ∙ ends_at t (CutOff t) is_cut f g.2 (λ b k. cut_off t b g.1 k)
 
--- a segment is read as it stands, before whatever it may stand before
+-- the bytes of a segment read as this segment, before bytes that it may come before
 pub reads_segment : (s : Segment) (f : List ℕ) → IsSegment s f → read_on (Begun []) (bytes_of s ++ f) ≡ after s (read_on (Begun []) f)
 reads_segment (Character c) f h = reads_character c f h
 reads_segment (IllFormed p) f h = reads_ill_formed p f h

@@ -1,4 +1,4 @@
--- A byte that cuts off: what it does, and when it takes memory.
+-- A byte that cuts a sequence off: its effect, and when memory is taken after it.
 use Rattle.std.proofs.Common.{◌≡◌, ℕ, true, false, List, [], refl, subst, arith, ◌-◌}
 use Rattle.std.proofs.lemmas.Bool.{or_parts, cond_both}
 use Rattle.escape_framing.specs.Bytes.{is_stop, is_embedded, is_intermediate, is_cut}
@@ -33,7 +33,7 @@ pub c1_not_cut : (b : ℕ) → is_c1 0xC2 b ≡ true → is_cut (b - 0x40) ≡ f
 unfolding is_cut is_stop
 c1_not_cut b h = grind (arith, nat_tests)
 
--- what takes memory after a byte that cuts off took memory before it
+-- a kept state takes memory after a byte that cuts off only if it took memory before the byte
 pub took_memory : (kept : Kept) (b : ℕ) → is_cut b ≡ true → TakesMemory (kept_step kept b).kept → TakesMemory kept
 unfolding device_step string_step
 took_memory (InCharacter bytes) b h m = takes_none bytes b m

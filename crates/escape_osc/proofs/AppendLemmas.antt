@@ -1,4 +1,4 @@
--- What appending keeps of the bytes that were there.
+-- Appending keeps the bytes that were there.
 use Rattle.std.proofs.Common.{◌≡◌, ℕ, ◌+◌, ◌<◌, ◌≤◌, ◌==◌, Bool, true, false, cond, eqb, List, [], ◌∷◌, ◌++◌, length, map, get_or, take, drop, refl, ap, sym, ◌∙◌, arith, length-append, append_assoc, append-nil, Bor, String, Global}
 use Rattle.std.proofs.lemmas.List.{take_at, take-take, drop_all}
 use Rattle.base64.specs.Engines.{standard}
@@ -16,7 +16,7 @@ use Rattle.escape_osc.specs.Selection.{bits_of, letters_of}
 use Rattle.escape_osc.specs.Text.{base64_of}
 use Rattle.escape_osc.proofs.ShowLemmas.{row_letter, row_letters, row_letters_next, row_letters_end}
 
--- bytes that begin with others, and more that begin with those
+-- if `third` begins with `second`, and `second` with `first`, then `third` begins with `first`
 pub kept : (first second third added : List ℕ) → second ≡ first ++ added → take (length second) third ≡ second → take (length first) third ≡ first
 kept first second third added e h =
     let longer : length first ≤ length second = omega (arith, ap length e, length-append first added) in
@@ -29,7 +29,7 @@ unfolding base64_of
 base64_over bytes old new size e =
     e ∙ ap (λ rest. encode_of standard bytes ++ rest) (drop_all (encoded_size_of standard (length bytes)) old (omega (arith, size))) ∙ append-nil (encode_of standard bytes)
 
--- ---- a walk over the letters' table, with what was there and the letters so far
+-- ---- a walk over the letters' table, with the bytes before the letters, and the letters so far
 
 pub letter_appended : (before dest letter new : List ℕ) (bits : ℕ) (rows : List (ℕ × Selection)) (i : ℕ) (d : ℕ × Selection) (held : Bool) → i < length rows
     → held ≡ (bit_and bits (bits_of (get_or rows i d).1) == bits_of (get_or rows i d).1) → held ≡ true → letter ≡ encode_utf8 (get_or rows i d).0
@@ -52,7 +52,7 @@ letter_passed before dest bits rows i d held below test is so_far =
 pub letters_appended : (before dest : List ℕ) (bits i : ℕ) → 13 ≤ i → dest ≡ before ++ row_letters bits (take i LETTERS) → dest ≡ before ++ letters_of bits
 letters_appended before dest bits i h so_far = so_far ∙ ap (λ text. before ++ text) (row_letters_end bits i h)
 
--- ---- a walk over the parameters of a link, with what was there and the parameters so far
+-- ---- a walk over the parameters of a link, with the bytes before the parameters, and the parameters so far
 
 pub param_appended : (before dest separator key value new : List ℕ) (params : List (Bor (String Global) × Bor (String Global))) (param : Bor (String Global) × Bor (String Global))
     → separator ≡ cond (eqb (length params) 0) [] (58 ∷ []) → dest ≡ before ++ params_text (texts_of (map deref_pair params))

@@ -36,7 +36,7 @@ pub base64_exact : (text bytes : List ℕ) → IsBytes text → decoded_of stand
 unfolding base64_of
 base64_exact text bytes b h = exact standard text bytes (refl, refl) b h
 
--- ---- what some bytes are encoded as
+-- ---- the base64 encoding of bytes
 
 -- no byte of it is `;` or `?`, and all are ASCII
 abbrev pub is_symbol : ℕ → Bool

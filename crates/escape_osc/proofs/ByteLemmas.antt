@@ -1,4 +1,4 @@
--- What each byte of some texts keeps, each byte of what is read from them and written again keeps.
+-- A property of each byte of some texts is one of each byte that is read from them and written again.
 use Rattle.std.proofs.Common.{◌≡◌, ℕ, ◌==◌, Bool, true, false, ◌&&◌, List, [], ◌∷◌, ◌++◌, map, refl, sym, inl, inr, subst}
 use Rattle.std.specs.List.{join_with_byte, list_all, list_any, AllByRecursion}
 use Rattle.std.specs.Str.{is_utf8}

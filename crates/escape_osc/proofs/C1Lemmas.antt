@@ -1,4 +1,4 @@
--- Where a C1 control stands in joined texts.
+-- C1 controls in joined texts.
 use Rattle.std.proofs.Common.{◌≡◌, ℕ, ◌<◌, ◌==◌, true, false, ◌||◌, ◌&&◌, List, [], ◌∷◌, ◌++◌, map, refl, ap, sym, ◌∙◌, arith, inl, inr}
 use Rattle.std.specs.List.{join_with_byte, list_all, AllByRecursion}
 use Rattle.std.proofs.Math.Bool.{or_assoc, or-false}
@@ -37,7 +37,7 @@ ascii_lacks_c1 [] h = refl
 ascii_lacks_c1 (b ∷ []) h = refl
 ascii_lacks_c1 (b ∷ c ∷ text) h = rw (is_c1-lead b c h.0) (ascii_lacks_c1 (c ∷ text) h.1)
 
--- so one stands in two texts round such a byte where it stands in one of them
+-- two texts with a byte below 80 between them hold a C1 control exactly if one of the texts does
 pub holds_c1-joint : (xs : List ℕ) (c : ℕ) (ys : List ℕ) → c < 128 → holds_c1 (xs ++ c ∷ ys) ≡ (holds_c1 xs || holds_c1 ys)
 unfolding holds_c1
 holds_c1-joint [] c ys h = holds_c1-cons c ys h

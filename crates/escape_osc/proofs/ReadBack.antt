@@ -59,7 +59,7 @@ text_back make code (part ∷ rest) command body are is h = elim (option_cases (
       (ap body_of (sym e) ∙ body text ∙ ap (λ t. code ++ semicolon ∷ t) (sym (utf8_same _ text some)))
 ]
 
--- ---- what a code and the parts after it read as
+-- ---- the commands that a code and the parts after it read as
 
 pub fits : (first : List ℕ) (rest : List (List ℕ)) (command : Command) → any_holds_c1 (first ∷ rest) ≡ false → coded_reading first rest (first ∷ rest) ≡ Some command → osc_reading (first ∷ rest) ≡ command
 fits first rest command lacks is = rw (lacks, is) refl
@@ -262,7 +262,7 @@ pub parts_bytes : (parts : List (List ℕ)) → AllByRecursion (AllByRecursion (
 parts_bytes [] h = tt
 parts_bytes (part ∷ parts) h = (bytes_each part h.0, parts_bytes parts h.1)
 
--- what was read from a body reads back
+-- a command that was read from a body reads back
 pub body_back : (body : List ℕ) → IsBytes body → ReadsBack (osc_reading (parts_of body))
 body_back body b =
     split_back (parts_of body) (parts_of-some body) (pieces body) (parts_bytes (parts_of body) (parts_each (λ b. b < 256) body (each_byte body b)))

@@ -1,4 +1,4 @@
--- A command that reads back and holds no control can be written; and so can what was read from a body without controls.
+-- A command that reads back and holds no control can be written; and so can a command that was read from a body without controls.
 use Rattle.std.proofs.Common.{◌≡◌, ℕ, ◌<◌, ◌==◌, true, false, List, [], ◌∷◌, ◌++◌, codes, refl, ap, sym, subst, ◌∙◌, inl, inr, Option, Some, None, option_map, Ok, arith}
 use Rattle.std.specs.List.{AllByRecursion}
 use Rattle.std.specs.Str.{IsUtf8, bytes_eq, is_utf8}
@@ -29,9 +29,9 @@ use Rattle.escape_osc.proofs.ByteLemmas.{each-append, each_fails, none_passes, l
 use Rattle.escape_osc.proofs.SelectionLemmas.{selection_named, letters_ascii, letter_bytes}
 use Rattle.escape_osc.proofs.ReadBack.{link_parts, eight_is_link, result_cases, fifty_two_is_selection, clear_parts, lettered_parts, is_code, utf8_same, body_back, data_body, parts_bytes, zero_is_text, one_is_text, two_is_text, seven_is_text}
 
--- ---- What parts without U+0080 to U+009F mean
+-- ---- The meaning of parts without U+0080 to U+009F
 
--- they are left, or fit a code
+-- the parts stay `unspecified`, or fit a code
 pub data Meant (first : List ℕ) (rest : List (List ℕ)) (command : Command) : Type 0 where
   left : coded_reading first rest (first ∷ rest) ≡ None → unspecified (first ∷ rest) ≡ command → Meant first rest command
   fitted : coded_reading first rest (first ∷ rest) ≡ Some command → Meant first rest command
@@ -47,7 +47,7 @@ meant first rest command lacks is = elim (option_cases (coded_reading first rest
 body_lacks : (body : List ℕ) → holds_c1 body ≡ false → any_holds_c1 (parts_of body) ≡ false
 body_lacks body h = any_holds_c1-joined 59 (parts_of body) (omega arith) ∙ ap holds_c1 (join_with_byte-slice_split 59 body) ∙ h
 
--- ---- What a code gives is never `unspecified`
+-- ---- The command that a code gives is never `unspecified`
 
 abbrev IsKnown : Command → Type 0
 IsKnown (unspecified parts) = ⊥
@@ -156,7 +156,7 @@ clear_spelled bits lacks is =
           ]
     ]
 
--- what follows the letters, where a text does
+-- a text after the letters: the letters read as a selection, and the text as its data
 lettered_spelled : (bits : ℕ) (text : List ℕ) (command : Command) → IsKnown command → IsPiece text → holds_c1 (codes "52;" ++ (letters_of bits ++ semicolon ∷ text)) ≡ false
     → osc_reading (parts_of (codes "52;" ++ (letters_of bits ++ semicolon ∷ text))) ≡ command
     → (other : ℕ) × ((selection_reading (letters_of bits) ≡ Some other) × (data_reading other text ≡ Some command))
@@ -335,7 +335,7 @@ parts_clean (first ∷ rest) some bytes plains lacks whole = elim (meant first r
   | fitted e ↦ coded_clean first rest (osc_reading (first ∷ rest)) bytes plains (both_clean (first ∷ rest) plains (each_lacks_c1 (first ∷ rest) lacks)) lacks whole e
 ]
 
--- what was read from a body without controls can be written
+-- a command that was read from a body without controls can be written
 pub read_writable : (body : List ℕ) → IsBytes body → LacksControls body → IsWritable (osc_reading (parts_of body))
 read_writable body b h =
     let bytes : AllByRecursion IsBytes (parts_of body) = parts_bytes (parts_of body) (parts_each (λ x. x < 256) body (each_byte body b)) in

@@ -44,7 +44,7 @@ selection_more (a ∷ []) one two = absurd (one refl)
 selection_more (a ∷ b ∷ []) one two = absurd (two refl)
 selection_more (a ∷ b ∷ d ∷ rest) one two = refl
 
--- the reading of a link, by what its call answers
+-- the reading of a link, by the answer of its call
 pub link_some : (reading : Result (Option Link) LinkError) (link : Option Link) → IsUnlessMemory reading (Ok link) → result_ok reading ≡ Some link
 link_some (Ok other) link (inl is) = cc
 link_some (Ok other) link (inr is) = cc

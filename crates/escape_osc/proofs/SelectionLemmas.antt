@@ -75,7 +75,7 @@ abbrev pub all_bits : List Letter → ℕ
 all_bits [] = 0
 all_bits (l ∷ rows) = bit_or l.bits (all_bits rows)
 
--- what each row keeps
+-- a row's letter reads as the row's bits, and any number has all of these bits or none
 abbrev IsRow : Letter → Type 0
 IsRow l = (letter_bits l.letter ≡ Some l.bits) × ((a : ℕ) → (bit_and a l.bits ≡ l.bits) ⊎ (bit_and a l.bits ≡ 0))
 
@@ -143,7 +143,7 @@ or_above a b h = elim (cases_eq (bit_or a b) 0) [
   | inr some ↦ omega arith
 ]
 
--- what letters read as is among all bits
+-- the bits that letters read as are among all bits
 letters_known : (text : List ℕ) (bits : ℕ) → letters_bits text ≡ Some bits → bit_and bits (all_bits letters) ≡ bits
 unfolding letters_bits
 letters_known [] bits h = let e : 0 ≡ bits = same_Some _ _ h in rw (← e) (and_zero_l (all_bits letters))
@@ -194,7 +194,7 @@ selection_known bits known some =
       | inr full ↦ rw (ne_eqb (length (flat_map (letter_if_held bits) letters)) 0 full) back
     ]
 
--- and what letters name has some bit, and no other than those of letters
+-- and a selection that letters name has some bit, and only bits of letters
 pub selection_named : (text : List ℕ) (bits : ℕ) → selection_reading text ≡ Some bits → (bit_and bits (all_bits letters) ≡ bits) × (0 < bits)
 unfolding selection_reading
 selection_named text bits h = elim (cases_eq (length text) 0) [

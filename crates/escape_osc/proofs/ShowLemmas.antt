@@ -1,4 +1,4 @@
--- Facts on what the parts of a command's text print.
+-- Facts on the texts that the parts of a command print.
 use Rattle.std.proofs.Common.{◌≡◌, ℕ, Bool, true, false, ◌+◌, ◌<◌, ◌≤◌, ◌==◌, List, [], ◌∷◌, ◌++◌, length, get_or, take, drop, map, Vec, Global, arith, append_assoc, append-nil, refl, ap, sym, ◌∙◌, if◌then◌else◌, Option, Some, None, option_map, find, eq-eqb}
 use Rattle.std.proofs.lemmas.List.{take_more, take_all, flat_map_more, at_drop_more, at_drop_all}
 use Rattle.std.proofs.lemmas.Bool.Decides.{nat_tests}
@@ -17,7 +17,7 @@ use Rattle.escape_osc.proofs.PartsLemmas.{after, joined-cons}
 use Rattle.escape_osc.specs.ShownParts.{replacement_of}
 use Rattle.escape_osc.specs.Selection.{Letter, bits_of, letter_bits, letters, letters_of}
 
--- what a row of the letters' table gives
+-- the letter of a row of the letters' table, if `bits` holds its selection
 abbrev pub row_letter : ℕ → (ℕ × Selection) → List ℕ
 row_letter bits row = if bit_and bits (bits_of row.1) == bits_of row.1 then encode_utf8 row.0 else []
 

@@ -64,7 +64,7 @@ length-base64 text =
     length-append (encode_symbols standard.encode_table text) (replicate (padding_len (length text)) 61)
     ∙ omega (arith, symbols_length standard.encode_table text, length-replicate {A = ℕ} (padding_len (length text)) 61)
 
--- a text of letters and what follows them
+-- the length of a selection command, by its letters and the bytes after them
 lettered_length : (letters rest : List ℕ) → length (framed (codes "52;" ++ (letters ++ rest))) ≡ length letters + length rest + 7
 lettered_length letters rest = omega (arith, length-framed (codes "52;" ++ (letters ++ rest)), length-append letters rest)
 

@@ -45,7 +45,7 @@ parts_of-some (b ∷ body) h = elim (cases_Bool (b == semicolon)) [
   | inr other ↦ onto_first-some b (parts_of body) (rw other at h)
 ]
 
--- what each byte of a body keeps, each byte of its parts keeps
+-- a property of each byte of a body is one of each byte of its parts
 module _ (P : ℕ → Type 0) where
   onto_first_each : (b : ℕ) (parts : List (List ℕ)) → P b → AllByRecursion (AllByRecursion P) parts → AllByRecursion (AllByRecursion P) (onto_first b parts)
   onto_first_each b [] p h = ((p, tt), tt)

@@ -20,7 +20,7 @@ use Rattle.escape_osc.proofs.C1Lemmas.{ascii_lacks_c1}
 use Rattle.escape_osc.proofs.SelectionLemmas.{selection_known}
 use Rattle.escape_osc.proofs.ReadBack.{link_value, clear_back, lettered_back, code_text_back, zero_is_text, one_is_text, two_is_text, seven_is_text}
 
--- ---- what can be written reads back
+-- ---- commands that can be written read back
 
 single_lacks_c1 : (b : ℕ) → holds_c1 (b ∷ []) ≡ false
 unfolding holds_c1

@@ -1,4 +1,4 @@
--- The actions of a stream stand at the places of its dispatches.
+-- The actions of a stream have the offsets of its dispatches.
 use Rattle.std.proofs.Common.{◌≡◌, ◌≢◌, ℕ, zero, suc, ◌+◌, ◌<◌, ◌≤◌, Bool, true, false, Some, List, [], ◌∷◌, ◌++◌, length, take, drop, map, refl, sym, ap, subst, ◌∙◌, arith, append_assoc, length-append}
 use Rattle.std.specs.Prelude.{nat_lt, filter}
 use Rattle.std.specs.List.{flat_map, slice_get}
@@ -48,7 +48,7 @@ put_at n xs = map (λ a. (n, a)) xs
 abbrev spread : List (ℕ × Dispatch) → List (ℕ × StreamAction)
 spread ps = flat_map (λ (p : ℕ × Dispatch). map (λ a. (p.0, a)) (actions_of_dispatch p.1)) ps
 
--- the placed actions of the bytes, after others
+-- the placed actions of the bytes after `prefix`
 abbrev actions_from : List ℕ → List ℕ → List (ℕ × StreamAction)
 actions_from prefix bytes = spread (placed_from prefix bytes)
 
@@ -74,9 +74,9 @@ at_offset n (x ∷ xs) zero offset action h =
     let k : (n, x) ≡ (offset, action) = cc in (ap (λ (p : ℕ × StreamAction). p.0) k, ap (λ (p : ℕ × StreamAction). Some p.1) k)
 at_offset n (x ∷ xs) (suc i) offset action h = at_offset n xs i offset action h
 
--- ---- each has its place
+-- ---- each action has an offset
 
--- what is decided stands there, whatever follows
+-- an action that is decided keeps its index, whatever bytes follow
 stands : (s x more : List ℕ) (i : ℕ) (action : StreamAction) → slice_get (newly_decided_actions s x) i ≡ Some action
     → slice_get (stream_actions ((s ++ x) ++ more)) (length (stream_actions s) + i) ≡ Some action
 stands s x more i action h =
@@ -144,7 +144,7 @@ collected (b ∷ bytes) prefix =
 pub each_collected : (stream : List ℕ) → map (λ (p : ℕ × StreamAction). p.1) (placed_actions stream) ≡ stream_actions stream
 each_collected stream = collected stream [] ∙ ap (λ l. l ++ newly_decided_actions [] stream) (sym no_actions) ∙ sym (actions_grow [] stream)
 
--- ---- those of a piece
+-- ---- the actions of a chunk
 
 abbrev after : ℕ → (ℕ × StreamAction) → Bool
 after k p = nat_lt k p.0
@@ -200,7 +200,7 @@ of_piece stream more =
 
 -- ---- no further one
 
--- the one action of such a dispatch
+-- a dispatch has this action, and no other
 abbrev alone : Dispatch → StreamAction → Type 0
 alone d a = actions_of_dispatch d ≡ a ∷ []
 

@@ -54,7 +54,7 @@ bodies_here it offset r = (r, λ start. refl)
 pub bodies_join : (old mid new : Pieces) → HaveSameBodies old mid → HaveSameBodies mid new → HaveSameBodies old new
 bodies_join old mid new g h offset r = let x = h offset r in let y = g offset x.0 in (y.0, λ start. x.1 start ∙ y.1 start)
 
--- ---- what is left of a control sequence
+-- ---- the rest of a control sequence
 
 bodies_too : (old new : Pieces) → SameBut old new → HaveSameBodies old new
 bodies_too old new s = bodies_at old new (ap (λ (p : Parsing). p.held) s.parser) s.bytes s.count
@@ -121,9 +121,9 @@ gives_none first it g q n =
       bodies = g.bodies;
     }
 
--- ---- what is read
+-- ---- the bytes that are read
 
--- what was read of the bytes that were left, where nothing was left of a control sequence
+-- one read of the remaining bytes, where nothing is left of a control sequence
 pub record HasRead (old : Pieces) (r : Read) (l : Lending) (new : Pieces) : Type 0 where
   pub under : IsUnderWay old
   pub over : old.sequence ≡ None
@@ -235,7 +235,7 @@ begins_sequence old new e s answer h is = record {
   memory = subst (λ (xs : List StreamAction). OnErr answer (FirstTakes xs)) is h.memory;
 }
 
--- ---- what is handed out after the same
+-- ---- pieces that are handed out after a step that hands out none
 
 pub given_after : (old mid new : Pieces) (piece : Option PieceCode) → GoesOn old mid → HasGiven mid piece new → HasGiven old piece new
 given_after old mid new piece g h = record {
@@ -278,7 +278,7 @@ asks_body it u over t =
       },
     )
 
--- so it is with what comes before the same pieces
+-- an iterator takes memory for its next piece, if it does after a step that hands out none
 pub asks_before : (old mid : Pieces) → GoesOn old mid → AsksMemory mid → AsksMemory old
 asks_before old mid g (inl (offset, f)) =
     let b = g.bodies offset f.reads in
@@ -289,7 +289,7 @@ asks_before old mid g (inr f) = inr (λ start. subst FirstTakesMemory (g.same st
 pub asks_event : (old new : Pieces) (n : ℕ) (l : Lending) (e : Event) → HasRead old (read.Bytes (Some e) n) l new → FirstTakes (event_actions l e) → AsksMemory old
 asks_event old new n l e h t = inr (λ start. subst FirstTakesMemory (sym (event_whole old new n l e h start (event_actions l e) refl)) (first_takes (event_actions l e) _ t))
 
--- ---- a command that stands whole
+-- ---- a whole command
 
 pub finds_command : (old : Pieces) (n : ℕ) (body : List ℕ) (answer : Result Action AllocError) → IsGoing old → old.sequence ≡ None → old.count ≢ length old.bytes.now
     → ReadsEvent old.parser.now.held (drop old.count old.bytes.now) (whole_command n) (record (lending_in old.parser.now) { body = body }) → IfOk answer (λ action. value_of action ≡ command (osc_reading (parts_of body)))
@@ -317,11 +317,9 @@ finds_command old n body answer going over some reads is = record {
     found (Ok action) is = gives_event old new n l event.OperatingSystemCommand h action (λ i. sym is i ∷ actions_left old.parser.now.parameters (sym over i))
     found (Err error) is = tt
 
--- ---- what the parser says of itself
-
 -- ---- where pieces begin
 
--- what is to come of bytes after a stream
+-- an iterator of the bytes after a stream, before its first step
 pub record Begins (it : Pieces) (stream bytes : List ℕ) : Type 0 where
   pub ready : IsUnderWay it
   pub pieces : open_pieces (length stream) it ≡ pieces stream bytes
@@ -379,7 +377,7 @@ progress old new (Some (Err refusal.Memory)) o g = let k = goes_over old new o g
 progress old new (Some (Err refusal.Failed)) o g = let e : stage.Open ≡ stage.Failed = sym o ∙ g.items.0 in cc
 progress old new None o g = record { on = λ _. tt; keeps = tt; rests = λ _. tt }
 
--- what is handed out, where the same is left after it
+-- the list of remaining actions may be replaced by an equal one
 pub gives_left : (before after other : List StreamAction) (action : Option Action) → Gives before action after → (is_none action ≡ false → after ≡ other) → Gives before action other
 gives_left before after other None g h = g
 gives_left before after other (Some a) g h = g ∙ ap (λ (xs : List StreamAction). value_of a ∷ xs) (h refl)

@@ -95,7 +95,7 @@ says_body body bytes actions p n h =
     stands : no_pair (0xC2 ∷ 27 ∷ 93 ∷ (body ++ 27 ∷ bytes)) ≡ true
     stands = other_stands 93 (body ++ 27 ∷ bytes) refl (escape_after body bytes (not_c1 body n) (no_pair_after (0xC2 ∷ []) (27 ∷ bytes) h.unpaired))
 
--- the text of a command, where what follows it begins with its ESC \
+-- the text of a command reads as the command, if ESC \ and the bytes after it read as these actions
 pub says_command : (c : Command) (bytes : List ℕ) (actions : List StreamAction) → osc.IsWritable c → Says (27 ∷ 92 ∷ bytes) actions → Says (text_of c ++ bytes) (command c ∷ actions)
 says_command c bytes actions w h =
     says_same (sym (ap (λ x. 27 ∷ 93 ∷ x) (append_assoc (body_of c) (27 ∷ 92 ∷ []) bytes))) (ap (λ x. command x ∷ actions) (writable_back c w))

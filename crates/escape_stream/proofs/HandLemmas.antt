@@ -36,7 +36,7 @@ all_say (p ∷ ps) = λ i. one_says p i ++ all_say ps i
 pub items_say : (stream bytes : List ℕ) → actions_of_items (items stream bytes) ≡ newly_decided_actions stream bytes
 items_say stream bytes = all_say (pieces stream bytes) ∙ pieces_say stream bytes
 
--- what is done at each item are calls at its actions
+-- calls at the actions of each item in turn are calls at the actions of all items
 pub called_items : {P F : Type 0} (get : P → F) (step : F → Action → F → Type 0) (p : P) (xs : List Item) (q : P)
     → FoldsTo (λ a x b. IsCalledAt step (get a) (actions_of_item x) (get b)) p xs q → IsCalledAt step (get p) (actions_of_items xs) (get q)
 called_items get step p [] q s = subst (λ f. IsCalledAt step (get p) [] f) (ap get s) (called_none step (get p))

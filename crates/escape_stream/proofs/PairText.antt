@@ -37,7 +37,7 @@ same_intermediate None (Some n) p q h = absurd (false≢true (rw (sym (same_numb
 same_intermediate (Some m) None p q h = absurd (false≢true (rw h at p))
 same_intermediate (Some m) (Some n) p q h = ap Some (same_number m n h)
 
--- what is found in a list passes the test, and whatever each element passes
+-- an element that is found in a list passes the test, and also `kept`, which all elements pass
 found_by : {A : Type 0} (test kept : A → Bool) (first : A) (remaining : List A) (x : A) (u : Bool) → test first ≡ u → kept first ≡ true
     → (find test remaining ≡ Some x → (test x ≡ true) × (kept x ≡ true)) → find test (first ∷ remaining) ≡ Some x → (test x ≡ true) × (kept x ≡ true)
 found_by test kept first remaining x true e k after f =

@@ -20,9 +20,9 @@ use Rattle.escape_stream.specs.Sequences.{event_actions}
 pub event_pieces : (l : Lending) (e : Event) (rest : List Piece) → pieces_of (map framing.Single (handed_out l (Some e))) ++ rest ≡ map Single (event_actions l e) ++ rest
 event_pieces l e rest = ap (λ (x : List Piece). x ++ rest) (append-nil (map Single (event_actions l e)))
 
--- ---- what was read
+-- ---- the bytes that were read
 
--- what holds after a step
+-- after a step that read n bytes from offset k on: the rest leads to the same held state
 pub record Behind (k n : ℕ) (h after : Held) (bytes : List ℕ) : Type 0 where
   pub within : k + n ≤ length bytes
   pub reached : IsReached after
@@ -30,7 +30,7 @@ pub record Behind (k n : ℕ) (h after : Held) (bytes : List ℕ) : Type 0 where
   pub ends : (hand_out after (drop (k + n) bytes)).held ≡ (hand_out h (drop k bytes)).held
 
 module _ (k : ℕ) (h : Held) (bytes : List ℕ) (r : Read) (l : Lending) (reads : ReadsEvent h (drop k bytes) r l) where
-  -- what is left after it
+  -- the items of the bytes that a step leaves
   left_after : (start n : ℕ) → framed_after start (start + k + n) l.held (drop n (drop k bytes)) ≡ framed_after start (start + (k + n)) l.held (drop (k + n) bytes)
   left_after start n = λ i. framed_after start (add_assoc start k n i) l.held (drop-drop n k bytes i)
 

@@ -18,7 +18,7 @@ same_number m n h = grind (arith, nat_tests)
 pub low_byte : (b : ℕ) → b ≤ 126 → nat_lt b 128 ≡ true
 low_byte b h = grind (arith, nat_tests)
 
--- what passes a test passes a weaker one
+-- bytes that pass a test pass a weaker one
 pub all_weaker : (strong weak : ℕ → Bool) → ((b : ℕ) → strong b ≡ true → weak b ≡ true) → (bytes : List ℕ) → list_all strong bytes ≡ true → list_all weak bytes ≡ true
 all_weaker strong weak w [] h = refl
 all_weaker strong weak w (b ∷ bytes) h =

@@ -1,4 +1,4 @@
--- Between two texts that stand side by side lies a segment without an action.
+-- Between two neighbouring texts is a segment without an action.
 use Rattle.std.proofs.Common.{◌≡◌, ℕ, List, [], ◌∷◌, ◌++◌, length, map, refl, sym, ap, ◌∙◌, arith}
 use Rattle.std.proofs.lemmas.Grind.{flat_map-append}
 use Rattle.escape_framing.specs.Dispatch.{Dispatch, dispatches_of}
@@ -21,7 +21,7 @@ after_actions [] rest before from text remaining e = (before, e)
 after_actions (a ∷ actions) rest [] from text remaining e = cc
 after_actions (a ∷ actions) rest (p ∷ before) from text remaining e = after_actions actions rest before from text remaining (let k : map Single actions ++ rest ≡ before ++ Text from text ∷ remaining = cc in k)
 
--- a text of pieces is one of the items that they are of
+-- a text among the pieces is one of the items that the pieces are of
 record IsItem (items : List Framed) (from : ℕ) (text : List ℕ) (remaining : List Piece) : Type 0 where
   before : List Framed
   after : List Framed
@@ -43,7 +43,7 @@ is_item (framing.Single d ∷ items) before from text remaining e =
     let k = is_item items b.0 from text remaining b.1 in
     record { before = framing.Single d ∷ k.before; after = k.after; are = (λ i. framing.Single d ∷ k.are i); rest = k.rest }
 
--- a text that stands first follows dispatches without an action
+-- before a text that is the first piece are only dispatches without an action
 record IsFirst (items : List Framed) (next : ℕ) (more : List ℕ) : Type 0 where
   silent : List Dispatch
   remaining : List Framed

@@ -150,7 +150,7 @@ framed_actions start ((n, Enter x f) ∷ placed) h = single_framed (Enter x f) (
 framed_actions start ((n, Data b) ∷ placed) h = single_framed (Data b) (framed start placed) ∙ ap (λ (l : List StreamAction). actions_of_dispatch (Data b) ++ l) (framed_actions start placed h.1)
 framed_actions start ((n, Exit) ∷ placed) h = single_framed Exit (framed start placed) ∙ ap (λ (l : List StreamAction). actions_of_dispatch Exit ++ l) (framed_actions start placed h.1)
 
--- the dispatches of a call, without their places, are those that its bytes newly decide
+-- the dispatches of a call, without their offsets, are those that its bytes newly decide
 at_one_offset : (n : ℕ) (ds : List Dispatch) → seconds (map (λ d. (n, d)) ds) ≡ ds
 at_one_offset n [] = refl
 at_one_offset n (d ∷ ds) = ap (λ (l : List Dispatch). d ∷ l) (at_one_offset n ds)
@@ -169,7 +169,7 @@ newly_placed stream (b ∷ bytes) =
     ∙ (λ i. at_one_offset (length stream + 1) (newly_decided stream (b ∷ [])) i ++ newly_placed (stream ++ b ∷ []) bytes i)
     ∙ sym (newly_join stream (b ∷ []) bytes)
 
--- the actions of the pieces of a call
+-- the actions of the pieces of a call are those that its bytes newly decide
 pub pieces_say : (stream bytes : List ℕ) → actions_of_pieces (pieces stream bytes) ≡ newly_decided_actions stream bytes
 pieces_say stream bytes =
     framed_actions (length stream) (placed_from stream bytes) (subst AllPrint (sym (newly_placed stream bytes)) (newly_print stream bytes))

@@ -110,7 +110,7 @@ walks_early does refuses old new first last h w e =
     let k : h ≡ halted.Memory = cc in
     subst (λ x. WalksTo does refuses old first (Err x) new last) k w
 
--- what the performer has done by then, in a call that began with these bytes after a stream
+-- in a call that began with these bytes after a stream, the performer has done the first pieces, and the rest is left
 pub walks_up_to : {P : Type 0} (does : P → Item → P → Type 0) (old : Reading) (first last : P) (stream bytes : List ℕ) → old.parser.now.held ≡ held_of stream → old.count ≡ 0 → old.bytes.now ≡ bytes → open_pieces (length stream) old ≡ pieces stream bytes
     → WalksSome does old first last → PerformsUpToMemory does first stream bytes last
 walks_up_to does old first last stream bytes held none is whole w =

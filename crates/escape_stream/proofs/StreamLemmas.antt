@@ -36,7 +36,7 @@ texts_join-lem a b h = texts_after-append false a b h
 
 -- ---- The last action
 
--- what holds of the last of two holds of the list
+-- the last action joins with the next one in the list as it does alone
 single : (last next after : StreamAction) (joined : Bool) → JoinsPair last next joined after → JoinsLast (last ∷ []) next joined (after ∷ [])
 single last next after true h = ap (λ a. a ∷ []) h.1 ∙ sym (ap (λ v. cond v (print_string (printed last ++ printed next) ∷ []) (last ∷ next ∷ [])) h.0)
 single last next after false h =
@@ -55,7 +55,7 @@ joins_at (a ∷ b ∷ actions) zero last after next joined len item h = absurd (
 joins_at (a ∷ b ∷ actions) (suc n) last after next joined len item h =
     after_first (value_of a) (value_of b) (map value_of actions) (map value_of (set (b ∷ actions) n after)) next joined (joins_at (b ∷ actions) n last after next joined (cc len) item h)
 
--- an action that shows what it showed changes no list
+-- an action of an equal value, at the index of another, leaves the values of the list
 pub kept_at : (actions : List Action) (n : ℕ) (last after : Action) → last ≡ get_or actions n last → value_of after ≡ value_of last → map value_of (set actions n after) ≡ map value_of actions
 kept_at [] n last after item h = refl
 kept_at (a ∷ actions) zero last after item h = ap (λ v. v ∷ map value_of actions) (h ∙ ap value_of item)

@@ -1,4 +1,4 @@
--- Bytes that the plain reading takes as whole segments, and what these ask.
+-- Bytes that the plain reading takes as whole segments, and the actions of these.
 use Rattle.std.proofs.Common.{◌≡◌, ℕ, Bool, true, false, List, [], ◌∷◌, ◌++◌, refl, sym, ap, ◌∙◌, arith, append-nil}
 use Rattle.std.proofs.Math.Seq.{drop-append_seam}
 use Rattle.std.specs.Prelude.{length, drop, ◌-◌, nat_le, ◌==◌, ◌&&◌, not, nat_lt}
@@ -24,7 +24,7 @@ use Rattle.escape_stream.specs.StreamActions.{actions_of_dispatch, actions_of, s
 pub pair_stands : (x b : ℕ) (bytes : List ℕ) → is_c1 x b ≡ false → no_pair (b ∷ bytes) ≡ true → no_pair (x ∷ b ∷ bytes) ≡ true
 pair_stands x b bytes e h = rw e h
 
--- a byte other than C2 may stand before any
+-- a byte other than C2 begins no C1 control
 pub other_stands : (b : ℕ) (bytes : List ℕ) → (b == 0xC2) ≡ false → no_pair bytes ≡ true → no_pair (b ∷ bytes) ≡ true
 other_stands b [] e h = refl
 other_stands b (c ∷ bytes) e h = rw e h
@@ -35,11 +35,11 @@ is_other b h = grind (arith, nat_tests)
 is_no_second : (b : ℕ) → nat_lt b 128 ≡ true → is_c1 0xC2 b ≡ false
 is_no_second b h = grind (arith, nat_tests)
 
--- a byte below 80h may stand between any two
+-- a byte below 80h is no part of a C1 control
 pub low_stands : (b : ℕ) (bytes : List ℕ) → nat_lt b 128 ≡ true → no_pair bytes ≡ true → no_pair (0xC2 ∷ b ∷ bytes) ≡ true
 low_stands b bytes e h = pair_stands 0xC2 b bytes (is_no_second b e) (other_stands b bytes (is_other b e) h)
 
--- so may such a text
+-- nor is a text of these bytes
 pub low_text : (text bytes : List ℕ) → list_all (λ b. nat_lt b 128) text ≡ true → no_pair (0xC2 ∷ bytes) ≡ true → no_pair (0xC2 ∷ (text ++ bytes)) ≡ true
 low_text [] bytes h k = k
 low_text (b ∷ text) bytes h k =
@@ -67,10 +67,10 @@ own_form (b ∷ c ∷ bytes) h =
     let e = not-true (is_c1 b c) p.0 in
     rw e (ap (λ l. b ∷ l) (own_form (c ∷ bytes) p.1))
 
--- ---- What bytes ask
+-- ---- The actions of bytes
 
--- Read from the start, the bytes ask these actions and leave nothing open; there is no C1 control in them, also
--- where a C2 stands before them.
+-- Read from the start, the bytes give these actions and leave nothing open; there is no C1 control in them, even if
+-- a C2 comes before them.
 pub record Says (bytes : List ℕ) (actions : List StreamAction) : Type 0 where
   pub asks : actions_of (flat_map dispatches_of (read_on (Begun []) bytes).segments) ≡ actions
   pub whole : (read_on (Begun []) bytes).tail ≡ Begun []
@@ -87,7 +87,7 @@ says_same p q h = record {
   unpaired = ap (λ l. no_pair (0xC2 ∷ l)) (sym p) ∙ h.unpaired;
 }
 
--- a segment before what it may stand before
+-- a segment gives its actions before those of the bytes that it may come before
 pub says_segment : (s : Segment) (bytes : List ℕ) (actions : List StreamAction) → IsSegment s bytes → no_pair (0xC2 ∷ (bytes_of s ++ bytes)) ≡ true → Says bytes actions
     → Says (bytes_of s ++ bytes) (actions_of (dispatches_of s) ++ actions)
 says_segment s bytes actions g u h =

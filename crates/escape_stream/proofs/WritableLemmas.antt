@@ -1,4 +1,4 @@
--- A writable list reads back: at the start of a segment, after what closed a string, and within a device control string.
+-- A writable list reads back: at the start of a segment, after an action that closed a string, and within a device control string.
 use Rattle.std.proofs.Common.{◌≡◌, arith, Bool, true, false, cond, List, [], ◌∷◌, ◌++◌, map, refl, sym, ap, ◌∙◌, append_assoc, Some, None}
 use Rattle.std.specs.Prelude.{ℕ, ◌≢◌, not}
 use Rattle.std.proofs.lemmas.Bool.Decides.{nat_tests}
@@ -30,8 +30,8 @@ use Rattle.escape_stream.proofs.CommandText.{final_byte, says_csi, says_command}
 
 -- ---- Device control strings
 
--- After the opening of a device control string and some data the bytes ask these actions, with those of the string, and
--- leave nothing open; there is no C1 control in them, where this byte stands before them.
+-- After the opening of a device control string and some data the bytes give these actions, with those of the string, and
+-- leave nothing open; there is no C1 control in them, even if the byte `before` comes before them.
 record Feeds (header : List ℕ) (final : ℕ) (body : List ℕ) (before : ℕ) (bytes : List ℕ) (actions : List StreamAction) : Type 0 where
   asks : actions_of (flat_map dispatches_of (read_on (OpenDevice [] header final body) bytes).segments) ≡ actions
   whole : (read_on (OpenDevice [] header final body) bytes).tail ≡ Begun []
@@ -99,7 +99,7 @@ says_device header final bytes actions o h = record {
 
 -- ---- The lists
 
--- what is written for the list reads back: where a segment begins, after what closed a string, and within the data of a
+-- the bytes of the list read back: at the start of a segment, after an action that closed a string, and within the data of a
 -- device control string
 record Back (actions : List StreamAction) : Type 0 where
   start : IsWritableAfter None actions → Says (texts_after false actions) (read_form_after false actions)

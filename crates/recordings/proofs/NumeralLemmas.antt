@@ -2,7 +2,7 @@
 use Rattle.std.proofs.Common.{◌≡◌, ℕ, zero, suc, ◌+◌, ◌-◌, ◌*◌, min, List, [], ◌∷◌, ◌++◌, length, take, refl, sym, ap, ◌∙◌, arith}
 use Rattle.recordings.specs.Numerals.{number_after}
 
--- what stops early comes to the same
+-- capping a number before more digits are read leaves the capped result as it is
 pub stopped : (most n : ℕ) (digits : List ℕ) → min (number_after (min n most) digits) most ≡ min (number_after n digits) most
 stopped most n [] = omega arith
 stopped most n (digit ∷ digits) =

@@ -1,4 +1,4 @@
--- What is read of a recording is in the order of its times.
+-- The events that are read of a recording are in the order of their times.
 use Rattle.std.proofs.Common.{◌≡◌, ◌≤◌, ℕ, ◌+◌, Bool, true, false, List, [], ◌∷◌, ◌++◌, Option, Some, None, Result, Ok, Err, refl, sym, ap, subst, ◌∙◌, arith, append_assoc, append-nil, if◌then◌else◌}
 use Rattle.std.specs.Prelude.{◌||◌, is_some, nat_le, nat_lt}
 use Rattle.std.proofs.lemmas.Bool.{leb-true}
@@ -23,7 +23,7 @@ later : (early late : ℕ) (events : List Event) → early ≤ late → AreFrom 
 later early late [] h from = tt
 later early late (event ∷ events) h from = (omega (arith, h, from.0), from.1)
 
--- a time, and the events as they were
+-- no event is added, and the time doesn't fall
 stays : (before after : Reader) → after.events ≡ before.events → before.time ≤ after.time → Adds before after
 stays before after same h = record {
   more = [];
@@ -39,7 +39,7 @@ acted before time (Some act) h = record {
   goes = λ remaining from. (h, from);
 }
 
--- a time is not before the one that it comes from
+-- the time that is read is not before the one that precedes it
 not_before : (version : Version) (before time : ℕ) (is_done : Bool) (now : ℕ) → time_after version before time is_done ≡ Ok now → before ≤ now
 not_before Two before time false now e = let same : before ≡ now = cc in omega (arith, same)
 not_before Two before time true now e = by_test (nat_le before time) refl e

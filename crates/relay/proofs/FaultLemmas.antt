@@ -1,4 +1,4 @@
--- What a writer has gained where a line was begun.
+-- Lines that report faults: the part of one that was written is a prefix of it.
 use Rattle.std.proofs.Common.{ℕ, List, ◌∷◌, [], ◌++◌, Option, sym, ap, ◌∙◌, append_assoc, codes}
 use Rattle.std.specs.Io.KnownBytes.{Appends}
 use Rattle.std.proofs.KnownBytes.{Appends-trans}
@@ -21,15 +21,15 @@ prefix_next old mid new bytes rest first p = record {
   appends = Appends-trans old mid new bytes p.written first p.appends;
 }
 
--- the first bytes of what stands before the fault
+-- a prefix of `relay: ` is a prefix of the line
 pub line_begins : (old new : Option (List ℕ)) (fault : List ℕ) → AppendsPrefix old new (codes "relay: ") → AppendsPrefix old new (fault_line fault)
 line_begins old new fault p = prefix_first old new (codes "relay: ") (fault ++ 10 ∷ []) p
 
--- of the fault
+-- so is `relay: ` with a prefix of the fault
 pub line_goes_on : (old mid new : Option (List ℕ)) (fault : List ℕ) → Appends old mid (codes "relay: ") → AppendsPrefix mid new fault → AppendsPrefix old new (fault_line fault)
 line_goes_on old mid new fault first p = prefix_next old mid new (codes "relay: ") (fault ++ 10 ∷ []) first (prefix_first mid new fault (10 ∷ []) p)
 
--- and of the line feed
+-- so are these two with a prefix of the line feed
 pub line_ends : (old mid next new : Option (List ℕ)) (fault : List ℕ) → Appends old mid (codes "relay: ") → Appends mid next fault → AppendsPrefix next new (10 ∷ [])
     → AppendsPrefix old new (fault_line fault)
 line_ends old mid next new fault first second p = prefix_next old mid new (codes "relay: ") (fault ++ 10 ∷ []) first (prefix_next mid next new fault (10 ∷ []) second p)

@@ -1,4 +1,4 @@
--- What a flag's text says, as the code reads it.
+-- The truth value of a flag's text, as the code reads it.
 use Rattle.std.proofs.Common.{◌≡◌, Bool, true, false, Option, Some, None, Result, Ok, Err, refl, sym, codes}
 use Rattle.std.specs.Option.{unwrap_or}
 use Rattle.std.specs.Str.{bytes_eq}

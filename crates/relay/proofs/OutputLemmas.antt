@@ -1,4 +1,4 @@
--- A writer that holds what it held, why the status is 2, and what is said where it is 1.
+-- A writer that keeps its bytes, the cause of status 2, and the report where the status is 1.
 use Rattle.std.proofs.Common.{◌≡◌, ◌≢◌, ◌⊎◌, ℕ, inl, inr, Bool, true, false, List, [], ◌∷◌, ◌++◌, Option, Some, None, sym, ◌∙◌, append-nil, ap, arith, codes, refl, subst, Result, Err}
 use Rattle.std.specs.Io.KnownBytes.{Appends, Keeps}
 use Rattle.std.specs.Prelude.{IfSome, if◌then◌else◌}
@@ -25,7 +25,7 @@ nothing_appended None new kept = tt
 nothing_appended (Some bytes) None kept = absurd kept
 nothing_appended (Some bytes) (Some remaining) kept = kept ∙ sym (append-nil bytes)
 
--- it has gained the first bytes, none, of what an input gives
+-- a writer that keeps its bytes has gained an empty prefix of the output for the input
 pub none_of : (old new : Option (List ℕ)) (gives : List ℕ → List ℕ) (input : Option (List ℕ)) → Keeps old new
     → IfSome input (λ bytes. AppendsPrefix old new (gives bytes))
 none_of old new gives None kept = tt
@@ -71,7 +71,7 @@ reports_first words old new (Some bytes) written = record {
 same_name : (m n : ℕ) (old new gained : List ℕ) → n ∷ new ≡ m ∷ (old ++ gained) → (n ≡ m) × (new ≡ old ++ gained)
 same_name m n old new gained e = (cc, cc)
 
--- what appends to the bytes of a lent writer has not put another in its place
+-- bytes that are appended through a lent reference are appended to the writer: the reference still refers to it
 lent_appends : {S : Type 0} (contents : S → Option (List ℕ)) (m n : ℕ) (before after end : S) (gained : List ℕ) → (m ≡ n → end ≡ after)
     → Appends (named m (contents before)) (named n (contents after)) gained → Appends (contents before) (contents end) gained
 lent_appends contents m n before after end gained is appends = by_known (contents before) (contents after) refl appends
@@ -84,7 +84,7 @@ lent_appends contents m n before after end gained is appends = by_known (content
         let held_is : contents end ≡ Some held = ap contents (is (sym same.0)) ∙ e in
         subst (λ new. Appends (Some bytes) new gained) (sym held_is) same.1
 
--- what a lent writer of faults was given, the writer was
+-- a fault that is reported through a lent reference is reported to the writer
 pub lent_reports : {S : Type 0} (contents : S → Option (List ℕ)) (words : List Text) (left : Option (List ℕ)) (m n : ℕ) (before after end : S) (input : Option (List ℕ)) → (m ≡ n → end ≡ after)
     → IfSome input (ReportsFault words left (named m (contents before)) (named n (contents after))) → IfSome input (EndsWithFault words (contents before) (contents end))
 lent_reports contents words left m n before after end None is reports = tt

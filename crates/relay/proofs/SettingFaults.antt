@@ -1,4 +1,4 @@
--- Words that are refused, and what words that aren't give.
+-- Words that are refused, and the options that accepted words give.
 use Rattle.std.proofs.Common.{◌≡◌, ◌∙◌, ◌&&◌, ◌≤◌, ◌==◌, cond, ℕ, zero, suc, length, Bool, true, false, List, [], ◌∷◌, ◌++◌, Option, Some, None, is_some, inl, inr, refl, ap, arith, subst, sym, codes, map}
 use Rattle.std.specs.Prelude.{drop, encode_utf8, pos, slice_get}
 use Rattle.std.specs.List.{AllByRecursion, IsDistinct}
@@ -35,7 +35,7 @@ fault_first a b fault e = fault (or_else_nil a b e).0
 fault_second : (a b : Kinds) → IsFault b → IsFault (or_else a b)
 fault_second a b fault e = fault (or_else_nil a b e).1
 
--- ---- an option that stands where a number is to come
+-- ---- an option in the position of a number
 
 module _ (h : Held) (pending : IsFault (settle_fault line.rules false h)) where
   long_refused : (found : Option Rule) (text : Option Text) → IsFault (long_fault line.rules false found text h)
@@ -59,7 +59,7 @@ module _ (h : Held) (pending : IsFault (settle_fault line.rules false h)) where
       by_test true None = pending
       by_test false v = fault_first (react_fault line.rules false a [] h) _ (fault_first (settle_fault line.rules false h) _ pending)
 
--- the number that is to come isn't there yet
+-- a pending option without its number is a fault
 none_yet : (k : Numbered) (rows : List Row) → IsFault (settling rows (Some (name_for k, [])))
 unfolding command_line
 none_yet Columns rows = some_fault kind.InvalidValue []
@@ -68,7 +68,7 @@ none_yet Bytes rows = some_fault kind.InvalidValue []
 
 -- ---- one word
 
--- no fault from here on, up to what is pending at the end
+-- the walk over the words has no fault from here on, and the pending option at its end has none
 pub record Passes (from : Walk) (words : List Text) : Type 0 where
   pub walk : walk_fault line [] from words ≡ []
   pub settles : settle_fault line.rules false (walked_over from words).held ≡ []
@@ -79,7 +79,7 @@ first_passes w word rest p =
     let each = or_else_nil (turn_fault line [] w word) (walk_fault line [] (walked line.rules [] w word) rest) p.walk in
     (each.0, record { walk = each.1; settles = p.settles })
 
--- where the walk stands with this held and this awaited
+-- a walk that holds `h`, and waits for `waiting`
 abbrev standing : Waiting → Held → Walk
 standing waiting h = record { held = h; waiting = waiting; position = 1; is_trailing = false; stopped = None }
 
@@ -134,7 +134,7 @@ dashes_refused k rows (word ∷ rest) p =
     let next = first_passes (awaiting k rows) (codes "--") (word ∷ rest) p in
     trailing_refused (held rows (Some (name_for k, []))) (option (name_for k)) word (first_passes _ word rest next.1).0
 
--- so the word is taken for the number, whatever it is
+-- so the word is taken for the number, whatever its form
 value_passes : (k : Numbered) (rows : List Row) (word : Text) (rest : List Text) → Passes (awaiting k rows) (word ∷ rest) → Passes (between rows (Some (name_for k, word ∷ []))) rest
 value_passes k rows word rest p = by_lookup (lookup word) (first_passes (awaiting k rows) word rest p)
   where
@@ -190,7 +190,7 @@ flag_refused h x rest next = by_test (104 == x) (86 == x) refl refl
         let is : arg_by_short line.rules x ≡ None = rw (e, f) refl in
         subst (λ found. IsFault (short_fault line.rules false found rest h next)) (sym is) (some_fault kind.UnknownArgument [])
 
--- what the words give, after options that have these rows
+-- the options that the words give, all of them new after options that have these rows
 record GivenAfter (before : List Row) (words : List Text) : Type 0 where
   pub settings : List Setting
   pub give : GiveAll settings words
@@ -198,7 +198,7 @@ record GivenAfter (before : List Row) (words : List Text) : Type 0 where
   pub distinct : IsDistinct bytes_eq (map name_of settings)
   pub new : AllByRecursion (IsNew before) settings
 
--- what is new after a row is new before it, and is another option
+-- options that are new after the row of `s` is added are new before it, and have other names than `s`
 older : (s : Setting) (before : List Row) (settings : List Setting) → AllByRecursion (IsNew (before ++ row_for s ∷ [])) settings
     → AllByRecursion (IsNew before) settings × AllByRecursion (λ name. bytes_eq (name_of s) name ≡ false) (map name_of settings)
 older s before [] new = (tt, tt)
@@ -220,11 +220,11 @@ given_more before s first rest give range new more =
       new = (new, old.0);
     }
 
--- what is pending passes, and the words give options
+-- the pending option has no fault, and the words give options that are new after it
 abbrev Given : List Row → Option (Text × List Text) → List Text → Type 0
 Given rows pending words = (settling rows pending ≡ []) × GivenAfter (rows_at rows pending) words
 
--- what is to be shown of the words after the first
+-- the induction hypothesis: words no longer than `rest` that pass give options
 abbrev More : List Text → Type 0
 More rest = (words : List Text) (rows : List Row) (pending : Option (Text × List Text)) → length words ≤ length rest → Passes (between rows pending) words → Given rows pending words
 
@@ -354,7 +354,7 @@ version_refused (Some text) rows pending = some_fault kind.TooManyValues []
 
 -- ---- all words
 
--- such a word, with the rest after it
+-- the walk over this word and the rest passes
 abbrev Passing : List Row → Option (Text × List Text) → List Text → Text → Type 0
 Passing rows pending rest word = Passes (between rows pending) (word ∷ rest)
 

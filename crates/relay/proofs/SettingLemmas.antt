@@ -1,4 +1,4 @@
--- What words that give options come to: no fault, and their numbers.
+-- Words that give options: they have no fault, and the parser reads their numbers.
 use Rattle.std.proofs.Common.{◌≡◌, ◌∙◌, ◌||◌, List, [], ◌∷◌, Bool, true, false, cond, Option, None, is_some, refl, ap, arith, codes, map}
 use Rattle.std.specs.Prelude.{drop, flat_map, fold, option_and_then}
 use Rattle.std.specs.List.{AllByRecursion}
@@ -34,7 +34,7 @@ no_default_fault : (rows : List Row) → defaults_fault rows line.rules ≡ []
 unfolding command_line
 no_default_fault rows = defaults_pass line.rules rows (refl, (refl, (refl, (refl, (refl, (refl, tt))))))
 
--- the faults of a walk, and those after it
+-- the faults of a walk, or else those found after it
 abbrev faults_after : Held → Option (Text × List Text) → Kinds → Kinds
 faults_after h stopped kinds =
     let app : App = built command_line in
@@ -47,7 +47,7 @@ no_faults words given =
     let end = walk_ends given.settings (drop 1 words) given.in_range given.once given.given in
     (λ i. faults_after (end.held_is i) (end.stopped_is i) (end.fault i)) ∙ rw (end.settles, no_default_fault (settled line.rules (held end.rows end.pending)).rows) refl
 
--- and no other words have none
+-- words without a fault are a command line that can be run
 pub options_given : (words : List Text) → faults_in words ≡ [] → IsCommandLine (drop 1 words)
 unfolding command_line faults_in
 options_given words none =

@@ -1,4 +1,4 @@
--- What the parser makes of the text of a number in its range.
+-- How the parser reads the text of a number in its range.
 use Rattle.std.proofs.Common.{◌≡◌, ◌∙◌, ◌<◌, ◌==◌, ◌^◌, ℕ, Bool, true, false, [], ◌∷◌, None, refl, arith, sym, true≢false}
 use Rattle.std.specs.Prelude.{length, nat_le, nat_lt, neg_ℤ, int_le, drop, pos, zero, suc, codes}
 use Rattle.std.specs.Char.{digit_value}
@@ -21,7 +21,7 @@ digits_pass (byte ∷ digits) h = rw (lt-ltb (digit_value byte) 10 h.0) (digits_
 numeral_passes : (digits : Text) → IsNumeral 10 digits → is_numeral digits ≡ true
 numeral_passes digits h = rw (lt-ltb 0 (length digits) h.0, digits_pass digits h.1) refl
 
--- such a text looks like no option, and is read as its number
+-- the text has the form of no option, and passes the parser's tests of a number from 1 to `most`
 pub record IsPlainNumber (most : ℕ) (text : Text) : Type 0 where
   pub rest : bytes_eq text (codes "--") ≡ false
   pub long : long_of text ≡ None

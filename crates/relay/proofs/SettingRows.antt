@@ -23,7 +23,7 @@ row_for Show = row_with (codes "show") reading.AsWritten (codes "true")
 abbrev pub find_row : Text → List Row → Option Row
 find_row id rows = find (λ r. bytes_eq r.id id) rows
 
--- where no row has the id, one more stands at the end
+-- where no row has the id, the missing rows are added at the end
 pub added : (id : Text) (change : Row → List Row) (missing rows : List Row) → has_row id rows ≡ false → at_row id change missing rows ≡ rows ++ missing
 added id change missing [] none = refl
 added id change missing (r ∷ rows) none = by_test (bytes_eq r.id id) none (added id change missing rows)
@@ -33,7 +33,7 @@ added id change missing (r ∷ rows) none = by_test (bytes_eq r.id id) none (add
     by_test true e rest = absurd cc
     by_test false e rest = ap (λ more. r ∷ more) (rest e)
 
--- and nothing goes
+-- and no row is removed
 pub kept : (id : Text) (rows : List Row) → has_row id rows ≡ false → without id rows ≡ rows
 kept id rows none = added id (λ _. []) [] rows none ∙ append-nil rows
 
@@ -51,7 +51,7 @@ has_more id (x ∷ rows) r none other = by_test (bytes_eq x.id id) none (λ e. h
     by_test true e rest = e
     by_test false e rest = rest e
 
--- and the other way
+-- conversely, where no row has the id, none before the last one has it, and the last one has another
 pub had_none : (id : Text) (rows : List Row) (r : Row) → has_row id (rows ++ r ∷ []) ≡ false → (has_row id rows ≡ false) × (bytes_eq r.id id ≡ false)
 had_none id [] r none = (refl, last (bytes_eq r.id id) none)
   where
@@ -111,7 +111,7 @@ other_row : (id : Text) (a : Rule) (values : List Text) → bytes_eq a.id id ≡
 other_row id a [] other = refl
 other_row id a (v ∷ vs) other = rw other refl
 
--- a default follows what was given
+-- a default's row is found only where no row with its id was given
 default_found : (id : Text) (rows : List Row) (a : Rule) → find_row id (with_default rows a) ≡ or_row (find_row id rows) (find_row id (default_rows_of a))
 default_found id rows a = by_row (has_row a.id rows) refl
   where

@@ -38,19 +38,19 @@ line = (built command_line).top
 abbrev pub held : List Row → Option (Text × List Text) → Held
 held rows pending = record { rows = rows; pending = pending; skip = 0 }
 
--- between two options: what is pending was given last
+-- between two options: the pending one, if any, was given last
 abbrev pub between : List Row → Option (Text × List Text) → Walk
 between rows pending = record { held = held rows pending; waiting = idle; position = 1; is_trailing = false; stopped = None }
 
--- an option's number is to come
+-- after an option whose number is the next word
 abbrev pub awaiting : Numbered → List Row → Walk
 awaiting k rows = record { held = held rows (Some (name_for k, [])); waiting = option (name_for k); position = 1; is_trailing = false; stopped = None }
 
--- the rows with what is pending
+-- the rows, with the row of the pending option
 abbrev pub rows_at : List Row → Option (Text × List Text) → List Row
 rows_at rows pending = settled_rows line.rules pending rows
 
--- the faults of what is pending
+-- the faults of the pending option
 abbrev pub settling : List Row → Option (Text × List Text) → Kinds
 settling rows pending = settle_fault line.rules false (held rows pending)
 
@@ -61,7 +61,7 @@ IsNew rows s = has_row (name_of s) rows ≡ false
 abbrev pub walked_over : Walk → List Text → Walk
 walked_over = fold (walked line.rules [])
 
--- the words are walked over without a fault, and then these rows are there, or pending
+-- the words are walked over without a fault; then these are the rows, with that of the pending option
 pub record LeadsTo (from : Walk) (words : List Text) (found : List Row) : Type 0 where
   pub rows : List Row
   pub pending : Option (Text × List Text)
@@ -185,7 +185,7 @@ faults_in_turn w (word ∷ first) rest =
     ap (or_else (turn_fault line [] w word)) (faults_in_turn next first rest)
     ∙ sym (or_else_assoc (turn_fault line [] w word) (walk_fault line [] next first) (walk_fault line [] (walked_over next first) rest))
 
--- the words are walked over without a fault, at their end these rows are there, or pending, and no subcommand was met
+-- the words are walked over without a fault; at their end these are the rows, with the pending option's, and no subcommand was met
 pub record EndsWith (from : Walk) (words : List Text) (found : List Row) : Type 0 where
   pub rows : List Row
   pub pending : Option (Text × List Text)

@@ -1,4 +1,4 @@
--- What a word of the command line looks like.
+-- The forms of a word of the command line.
 use Rattle.std.proofs.Common.{◌≡◌, ◌∙◌, ◌==◌, ◌+◌, cond, ℕ, suc, Bool, true, false, [], ◌∷◌, ◌++◌, drop, take, Option, Some, None, refl, ap, arith, subst, sym, codes}
 use Rattle.std.specs.Prelude.{slice_get}
 use Rattle.std.specs.List.{after_first, before_first, position_or_len}
@@ -10,7 +10,7 @@ use Rattle.clap.specs.Walk.{Text, arg_by_long}
 use Rattle.relay.specs.CommandLine.{command_line}
 use Rattle.relay.proofs.SettingWalk.{Numbered, Columns, Rows, Bytes, line, name_for}
 
--- what follows the name of an option in its word
+-- the part of a word after the name of an option
 abbrev pub after_name : Option Text → Text
 after_name None = []
 after_name (Some text) = codes "=" ++ text
@@ -32,7 +32,7 @@ is_sign byte = byte == 61
 abbrev text_after : Text → Option Text
 text_after word = cond (has_byte 61 word) (Some (after_first is_sign word)) None
 
--- a word's name, and what follows it, are the word
+-- a word is its name, and then the part after the name
 parts : (word : Text) → word ≡ before_first is_sign word ++ after_name (text_after word)
 parts [] = refl
 parts (byte ∷ rest) = by_test (is_sign byte) refl (parts rest)

@@ -134,7 +134,7 @@ one_is len k lens h =
     (λ t. (eqb-true len 1 t, let e = ap (λ b. cond b (1 + prefix_len (λ n. n == 1) lens) 0) t in omega (arith, e)))
     (λ t. let e = ap (λ b. cond b (1 + prefix_len (λ n. n == 1) lens) 0) t in absurd (omega (arith, e)))
 
--- ones among the first few lengths are ones at the start
+-- ones at the start of the first `short` lengths are ones at the start of all lengths
 pub ones_short : (lens first : List ℕ) (count short : ℕ) → first ≡ take short lens → count ≡ prefix_len (λ n. n == 1) first → count ≤ prefix_len (λ n. n == 1) lens
 ones_short lens first count short f c = let e = ap (prefix_len (λ n. n == 1)) f in omega (arith, e, prefix_taken (λ n. n == 1) short lens)
 
@@ -152,7 +152,7 @@ bytes_prefix zero lens p = omega arith
 bytes_prefix (suc k) [] p = absurd (omega (arith, p))
 bytes_prefix (suc k) (len ∷ lens) p = let one = one_is len k lens p in omega (arith, one.0, bytes_prefix k lens one.1)
 
--- what is left at a position, cell by cell
+-- the lengths and the text from a position on, one cell at a time
 left_first : (lens : List ℕ) (at n d : ℕ) → at < length lens → n ≡ get_or lens at d → drop at lens ≡ n ∷ drop (at + 1) lens
 left_first lens at n d l e = drop-cons lens at d l ∙ (λ i. sym e i ∷ drop (sym (add-one at) i) lens)
 
@@ -162,7 +162,7 @@ cut_first lens text at n d l e = ap (λ (ns : List ℕ). cut_at ns text) (left_f
 pub bytes_first : (lens : List ℕ) (at n d : ℕ) → at < length lens → n ≡ get_or lens at d → bytes_of (drop at lens) ≡ n + bytes_of (drop (at + 1) lens)
 bytes_first lens at n d l e = ap bytes_of (left_first lens at n d l e)
 
--- what a step of `push_each` keeps
+-- at a step of `push_each` the next cell and the remaining cells are UTF-8
 pub left_utf8 : (lens text : List ℕ) (at n d : ℕ) → at < length lens → n ≡ get_or lens at d → list_all is_utf8 (cut_at (drop at lens) text) ≡ true → (is_utf8 (take n text) && list_all is_utf8 (cut_at (drop (at + 1) lens) (drop n text))) ≡ true
 left_utf8 lens text at n d l e p = sym (ap (list_all is_utf8) (cut_first lens text at n d l e)) ∙ p
 

@@ -35,8 +35,8 @@ use Rattle.screen_change.specs.declared.change.Change.TheVariants as of
 use Rattle.screen_change.specs.contracts.change.ChangePartialEq.TheImpl as derived
 
 -- an enum of names alone
-bare : (D : Declared) → Bare D.parts → (x y : D.D) → Decides (sameb D x y) (x ≡ y)
-bare D h x y = (λ e. same_true D h x y e, λ e. eq-eqb (tag_of D x) (tag_of D y) (ap (tag_of D) e))
+names_alone : (D : Declared) → Bare D.parts → (x y : D.D) → Decides (sameb D x y) (x ≡ y)
+names_alone D h x y = (λ e. same_true D h x y e, λ e. eq-eqb (tag_of D x) (tag_of D y) (ap (tag_of D) e))
 
 numbers : (m n : ℕ) → Decides (m == n) (m ≡ n)
 numbers m n = (λ e. eqb-true m n e, λ e. eq-eqb m n e)
@@ -89,10 +89,10 @@ links_eq (Some x) (Some y) =
     (λ e. ap Some (d.0 e), λ e. d.1 (same_Some _ _ e))
 
 attribute_eq : (x y : AttributeChange) → Decides (derived.ghosts.eq (of.Attribute x) (of.Attribute y)) (attribute_value x ≡ attribute_value y)
-attribute_eq (attribute.Intensity x) (attribute.Intensity y) = one value.Intensity x y _ (λ e. cc) (bare intensity.the_type tt x y)
-attribute_eq (attribute.Underline x) (attribute.Underline y) = one value.Underline x y _ (λ e. cc) (bare underline.the_type tt x y)
+attribute_eq (attribute.Intensity x) (attribute.Intensity y) = one value.Intensity x y _ (λ e. cc) (names_alone intensity.the_type tt x y)
+attribute_eq (attribute.Underline x) (attribute.Underline y) = one value.Underline x y _ (λ e. cc) (names_alone underline.the_type tt x y)
 attribute_eq (attribute.Italic x) (attribute.Italic y) = one value.Italic x y _ (λ e. cc) (switch_eq x y)
-attribute_eq (attribute.Blink x) (attribute.Blink y) = one value.Blink x y _ (λ e. cc) (bare blink.the_type tt x y)
+attribute_eq (attribute.Blink x) (attribute.Blink y) = one value.Blink x y _ (λ e. cc) (names_alone blink.the_type tt x y)
 attribute_eq (attribute.Reverse x) (attribute.Reverse y) = one value.Reverse x y _ (λ e. cc) (switch_eq x y)
 attribute_eq (attribute.StrikeThrough x) (attribute.StrikeThrough y) = one value.StrikeThrough x y _ (λ e. cc) (switch_eq x y)
 attribute_eq (attribute.Invisible x) (attribute.Invisible y) = one value.Invisible x y _ (λ e. cc) (switch_eq x y)
@@ -117,9 +117,9 @@ change_eq (of.CursorPosition x v) (of.CursorPosition y w) =
     let d = both (position_impl.ghosts.eq x y) (position_impl.ghosts.eq v w) (position_eq x y) (position_eq v w) in
     (λ e. let h = d.0 e in λ i. to.CursorPosition (h.0 i) (h.1 i), λ e. d.1 (cc, cc))
 change_eq (of.CursorColor x) (of.CursorColor y) = one to.CursorColor x y _ (λ e. cc) (color_eq x y)
-change_eq (of.CursorShape x) (of.CursorShape y) = one to.CursorShape x y _ (λ e. cc) (bare shape.the_type tt x y)
-change_eq (of.CursorVisibility x) (of.CursorVisibility y) = one to.CursorVisibility x y _ (λ e. cc) (bare visibility.the_type tt x y)
-change_eq (of.LineAttribute x) (of.LineAttribute y) = one to.LineAttribute x y _ (λ e. cc) (bare line.the_type tt x y)
+change_eq (of.CursorShape x) (of.CursorShape y) = one to.CursorShape x y _ (λ e. cc) (names_alone shape.the_type tt x y)
+change_eq (of.CursorVisibility x) (of.CursorVisibility y) = one to.CursorVisibility x y _ (λ e. cc) (names_alone visibility.the_type tt x y)
+change_eq (of.LineAttribute x) (of.LineAttribute y) = one to.LineAttribute x y _ (λ e. cc) (names_alone line.the_type tt x y)
 change_eq (of.ScrollRegionUp a b c) (of.ScrollRegionUp x y z) = three to.ScrollRegionUp a b c x y z (λ e. (cc, (cc, cc)))
 change_eq (of.ScrollRegionDown a b c) (of.ScrollRegionDown x y z) = three to.ScrollRegionDown a b c x y z (λ e. (cc, (cc, cc)))
 change_eq (of.Title x) (of.Title y) = one to.Title (string_bytes x) (string_bytes y) _ (λ e. cc) (text_eq x y)

@@ -170,7 +170,7 @@ each_written (byte ∷ text) a w l =
     let next = with_attributes a w in
     sym (more_each text a (record next { cells = next.cells ++ (byte ∷ []) ∷ [] }) (pen_after a w) ∙ ap (λ (cells : List (List ℕ)). record next { cells = cells }) (append_assoc next.cells ((byte ∷ []) ∷ []) (each text)))
 
--- ---- what else is written
+-- ---- changes and attributes that are written
 
 pub nothing_written : (pen : Attributes) → finished (begun pen) ≡ []
 nothing_written pen = ap (map Text) no_texts

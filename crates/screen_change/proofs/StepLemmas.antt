@@ -79,7 +79,7 @@ alone_utf8 text l u = ap (list_all is_utf8) (alone_each text l) ∙ (λ i. is_ut
 
 -- ---- lengths that are kept
 
--- what `resize` leaves where it was not refused
+-- the lengths after a `resize` that succeeds: `count` ones are appended
 pub grown : (lens now : List ℕ) (ok : Bool) (n len count : ℕ) → ok ≡ true → now ≡ cond ok (take n lens ++ replicate (n - len) 1) lens → len ≡ length lens → n ≡ len + count → now ≡ lens ++ replicate count 1
 grown lens now ok n len count k e l m =
     let more : n - len ≡ count = omega (arith, m) in

@@ -13,7 +13,7 @@ use Rattle.screen_change.specs.Texts.{same_texts, stay_independent, texts}
 pub by_test : {P : Type 0} (b : Bool) → (b ≡ true → P) → (b ≡ false → P) → P
 by_test {P} b is not_is = (elim b as (λ w. b ≡ w → P) [ true ↦ is | false ↦ not_is ]) refl
 
--- ---- texts that are the same
+-- ---- equal lists of texts
 
 pub same_texts_are : (xs ys : List (List ℕ)) → same_texts xs ys ≡ true → xs ≡ ys
 same_texts_are [] [] e = refl

@@ -166,7 +166,7 @@ between a b old new = columns_fresh a a (b - a) old new
 none_between : (a : ℕ) (old new : Row) → between a a old new ≡ []
 none_between a old new = let none : a - a ≡ 0 = omega arith in ap (λ n. columns_fresh a a n old new) none
 
--- a part in which they are the same
+-- a part that is the same in both rows has no fresh cells
 same_between : (a b : ℕ) (old new : Row) → columns_from a (b - a) old ≡ columns_from a (b - a) new → between a b old new ≡ []
 same_between a b old new e = ap (λ (r : Row). fresh (visible_from a r) (visible_from a (columns_from a (b - a) new))) e ∙ none_of_same (visible_from a (columns_from a (b - a) new))
 
@@ -262,7 +262,7 @@ module _ (x close start stop from to : ℕ) (old new : Row) (p : AreEqualAround 
         ap (λ n. between from n old new) is ∙ none_between from old new ∙ sym (same_after from close stop old new after p.back))
   ]
 
--- a part whose first columns are skipped, and of which so many are then left
+-- after the first `skipped` columns of a part, the next n columns have all of its fresh cells
 pub part_is_fresh : (x other_x count start stop skipped n : ℕ) (old new : Row) → x ≡ other_x → AreEqualAround start stop old new → x + count ≤ length old → other_x + count ≤ length new
     → skipped ≡ min (start - x) count → skipped + n ≡ min (stop - x) count → columns_fresh (x + skipped) (other_x + skipped) n old new ≡ columns_fresh x other_x count old new
 part_is_fresh x other_x count start stop skipped n old new same p l g s e =

@@ -1,4 +1,4 @@
--- What cells print that are written side by side.
+-- The texts that cells print if they are written side by side.
 use Rattle.std.proofs.Common.{◌≡◌, ℕ, ◌+◌, ◌≤◌, ◌∙◌, Bool, true, false, List, [], ◌∷◌, ◌++◌, length, get_or, set, map, refl, sym, ap, subst, arith, append-nil, length-set}
 use Rattle.std.specs.Prelude.{◌==◌, ◌&&◌, ◌||◌, nat_lt, nat_le, fold, if◌then◌else◌}
 use Rattle.std.specs.List.{concat, flat_map, list_any}
@@ -70,13 +70,13 @@ module _ (width_of : List ℕ → ℕ) where
 
 -- ---- one cluster that fits in the row
 
--- what strokes print, that none of them scrolls, and what follows them
+-- the strokes print these texts, none of them scrolls, and they leave the cursor, the size and the pen as in `after`
 record StrokesPrint (width_of : List ℕ → ℕ) (s : Screen) (ss : List Stroke) (ts : List PlacedText) (after : Stand) : Type 0 where
   prints : strokes_print width_of s ss ≡ ts
   still : strokes_scroll width_of s ss ≡ false
   leaves : stand_of (fold (stroke_on width_of) s ss) ≡ after
 
--- the screen, gone to the next row or not
+-- the screen, with the cursor at the start of the next row if the text wraps
 abbrev wrapped_if : Screen → Bool → Screen
 wrapped_if s wraps = if wraps then carriage_return (line_feed s) else s
 
@@ -168,7 +168,7 @@ strokes_are (byte ∷ text) ts e p n =
     ∙ ap (λ (cs : List (List ℕ)). map Cluster cs) (read_again ts p)
 
 module _ (width_of : List ℕ → ℕ) where
-  -- what strokes do to a display's screen
+  -- strokes on a display change its screen as strokes on the screen
   screen_is : (ss : List Stroke) (d : Display) → (fold (stroke_done width_of) d ss).screen ≡ fold (stroke_on width_of) d.screen ss
   screen_is [] d = refl
   screen_is (stroke ∷ ss) d = screen_is ss (stroke_done width_of d stroke)

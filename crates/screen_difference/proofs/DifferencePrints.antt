@@ -66,7 +66,7 @@ module _ (width_of : List ℕ → ℕ) (width rows : ℕ) where
       (λ e. ap count_of (p.sound.width ∙ e) ∙ grind (arith, nat_tests))
       (λ e. ap count_of (p.sound.width ∙ e) ∙ grind (arith, nat_tests))
 
-  -- cells side by side that have their places: their texts, the column after them, and what they print
+  -- cells side by side that have positions: their texts, the column after them, and the texts they print
   placed_texts : (cells : List CellContent) (row column : ℕ) → HavePositions width_of width rows (placed_beside row column cells) → AreTexts (map (λ c. c.text) cells)
   placed_texts [] row column p = tt
   placed_texts (cell ∷ cells) row column p = (p.0.sound.stands, placed_texts cells row (column + cell.width) p.1)
@@ -87,17 +87,17 @@ module _ (width_of : List ℕ → ℕ) (width rows : ℕ) where
       (λ i. first ∷ beside width_of row (column + is i) (map (λ c. c.text) cells))
       ∙ ap (λ (ts : List PlacedText). first ∷ ts) (placed_are cells row (column + cell.width) p.1)
 
--- ---- stretches, each after its place
+-- ---- stretches, each after its position change
 
 abbrev moved_to : ℕ → ℕ → Stand → Stand
 moved_to row column at = record at { row = row; column = column }
 
 module _ (width_of : List ℕ → ℕ) where
-  -- what follows a stretch
+  -- the row, the column and the pen after a stretch
   abbrev stretch_after : Stand → Stretch → Stand
   stretch_after at s = record at { row = s.row; column = after width_of s.column (map (λ c. c.text) (cells_of s)); pen = last_pen s.first.attributes s.remaining }
 
-  -- a position prints nothing, and the cursor stands there
+  -- a position change prints nothing, and moves the cursor there
   position_prints : (d : Display) (column row : ℕ) → column < d.screen.width → row < height d.screen
       → Prints width_of d (position column row ∷ []) [] (moved_to row column (stand_of d.screen))
   position_prints d column row c r =
@@ -115,7 +115,7 @@ module _ (width_of : List ℕ → ℕ) where
       let fits = p.0.in_columns in
       subst (λ (x : Stand). s.column < x.width → s.row < x.rows → Prints width_of d (position s.column s.row ∷ []) [] (moved_to s.row s.column x)) e (position_prints d s.column s.row) (omega arith) p.0.in_rows
 
-  -- the cells of a stretch, after its place
+  -- the cells of a stretch, after its position change
   stretch_cells : (d : Display) (at : Stand) (s : Stretch) → stand_of d.screen ≡ moved_to s.row s.column at → HavePositions width_of at.width at.rows (placed_of s)
       → Prints width_of d (cells_written at.pen (cells_of s)) (map text_of (placed_of s)) (stretch_after at s)
   stretch_cells d at s e p =
@@ -135,7 +135,7 @@ module _ (width_of : List ℕ → ℕ) where
       let a : Attributes = s.first.attributes in
       Prints-join (moved_prints d at s e p) (λ x f. Prints-join (pen_prints width_of a x (moved_to s.row s.column at) f) (λ y g. stretch_cells y (record at { pen = a }) s g p))
 
-  -- a stretch, and others after it
+  -- a stretch, and the remaining ones after it
   one_more : (d : Display) (pen : Option Attributes) (s : Stretch) (ss : List Stretch) (mid after : Stand) → Prints width_of d (stretch_written pen s) (map text_of (placed_of s)) mid
       → ((e : Display) → stand_of e.screen ≡ mid → Prints width_of e (stretches_written (Some (last_pen s.first.attributes s.remaining)) ss) (map text_of (all_placed ss)) after)
       → Prints width_of d (stretches_written pen (s ∷ ss)) (map text_of (all_placed (s ∷ ss))) after

@@ -23,7 +23,7 @@ each_after w row column (b ∷ text) a =
     ∙ each_after (with_cell (b ∷ []) a w) row (column + 1) text a
     ∙ ap (ends_at (with_each text a (with_cell (b ∷ []) a w)) row) e
 
--- the first one finds its place, and the others follow it
+-- the first cell is moved to its position, and the remaining cells follow it
 pub each_placed : (d : Drawing) (row column : ℕ) (text : List ℕ) (a : Attributes) → 0 < length text
     → with_all d (placed row (visible_each column text a)) ≡ record { written = with_each text a (moved_to row column a d); has_begun = true; row = row; column = column + length text }
 each_placed d row column [] a h = absurd (omega arith)

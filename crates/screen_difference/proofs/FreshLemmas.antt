@@ -27,7 +27,7 @@ or_false false = refl
 pub not_here : (o : VisibleCell) (olds : List VisibleCell) (v : VisibleCell) → (o.column < v.column) ⊎ (v.column < o.column) → is_shown (o ∷ olds) v ≡ is_shown olds v
 not_here o olds v h = ap (λ t. (t && same_cell o.cell v.cell) || is_shown olds v) (differs o.column v.column h)
 
--- passing cells before a column takes none that stands at one after
+-- passing the cells before a column passes no cell at this column or after it
 shown_from : (column : ℕ) (olds : List VisibleCell) (v : VisibleCell) → column ≤ v.column → is_shown (from_column column olds) v ≡ is_shown olds v
 shown_from column [] v h = refl
 shown_from column (o ∷ olds) v h =
@@ -41,7 +41,7 @@ pub none_later : (at : ℕ) (olds : List VisibleCell) (v : VisibleCell) → v.co
 none_later at [] v h p = refl
 none_later at (o ∷ olds) v h p = let q = p.0 in not_here o olds v (inr (omega arith)) ∙ none_later (o.column + 1) olds v (omega arith) p.1
 
--- of the cells from a column on only the first can stand there
+-- of the cells from a column on only the first can be at this column
 first_shown : (at : ℕ) (olds : List VisibleCell) (v : VisibleCell) → AreInOrder at olds → is_shown (from_column v.column olds) v ≡ begins_with (from_column v.column olds) v.column v.cell
 first_shown at [] v p = refl
 first_shown at (o ∷ olds) v p =
@@ -91,7 +91,7 @@ passed_is_fresh at bt olds (v ∷ news) p q =
     ∙ ap (λ (vs : List VisibleCell). v ∷ vs) remaining
     ∙ sym (ap (λ t. if not t then v ∷ fresh olds news else fresh olds news) e))
 
--- ---- columns of the new side, where they stand on the old one
+-- ---- columns of the new side, at the columns of the old side
 
 pub whole_part : (x n : ℕ) (r : Row) → IsWhole r → IsWhole (columns_from x n r)
 whole_part x n r p = whole-prefix n (closed_start (drop x r)) (whole-after x r p)
@@ -99,7 +99,7 @@ whole_part x n r p = whole-prefix n (closed_start (drop x r)) (whole-after x r p
 region_is : (start count : ℕ) (row : Row) → region start (start + count) row ≡ visible_from start (columns_from start count row)
 region_is start count row = let e : start + count - start ≡ count = omega arith in ap (λ n. visible_from start (cut n (cut_prefix start row))) e
 
--- the cells of a region have their places
+-- the cells of a region have room from a column on
 pub region_room : (x other_x count : ℕ) (row : Row) → IsWhole row → other_x + count ≤ length row → x + count < 2 ^ 64 → HaveRoom x (region other_x (other_x + count) row)
 region_room x other_x count row w h l =
     let part : Row = columns_from other_x count row in
@@ -113,7 +113,7 @@ region_room x other_x count row w h l =
 region_side : (x other_x count : ℕ) (row : Row) → IsWhole row → side_by_side x (region other_x (other_x + count) row) ≡ visible_from x (columns_from other_x count row)
 region_side x other_x count row w = ap (side_by_side x) (region_is other_x count row) ∙ side_visible other_x x (columns_from other_x count row) (whole_part other_x count row w)
 
--- what a walk over both regions finds
+-- a walk over both regions finds the fresh cells
 pub row_is_fresh : (x other_x count : ℕ) (old new : Row) → IsWhole old → IsWhole new → passed_fresh (side_by_side x (region x (x + count) old)) (side_by_side x (region other_x (other_x + count) new)) ≡ fresh (visible_from x (columns_from x count old)) (visible_from x (columns_from other_x count new))
 row_is_fresh x other_x count old new o w =
     (λ i. passed_fresh (region_side x x count old o i) (region_side x other_x count new w i))
@@ -158,6 +158,6 @@ columns_before zero lines = refl
 columns_before (suc n) [] = refl
 columns_before (suc n) (line ∷ lines) = ap (λ (rows : List Row). line.columns ∷ rows) (columns_before n lines)
 
--- the columns of the first so many lines from one on
+-- the columns of the first n lines from line y on
 pub columns_within : (y n m : ℕ) (lines olds : List LineContent) → olds ≡ drop y lines → m ≡ min n (length olds) → rows_of (take m olds) ≡ take n (drop y (rows_of lines))
 columns_within y n m lines olds e f = ap rows_of (ap (λ k. take k olds) f ∙ take_min n olds) ∙ columns_before n olds ∙ ap (take n) (ap rows_of e ∙ columns_after y lines)

@@ -1,4 +1,4 @@
--- What changes after others print, and where they leave the cursor.
+-- Two lists of changes in turn: what they print, and where they leave the cursor.
 use Rattle.std.proofs.Common.{◌≡◌, ℕ, ◌∙◌, Bool, true, false, List, [], ◌∷◌, ◌++◌, refl, sym, ap, append_assoc}
 use Rattle.std.specs.Prelude.{◌||◌}
 use Rattle.std.proofs.lemmas.List.Sums.{fold-append}
@@ -9,7 +9,7 @@ use Rattle.screen_effects.specs.Display.{Display}
 use Rattle.screen_effects.specs.Effect.{effect, replay}
 use Rattle.screen_difference.specs.Prints.{PlacedText, change_strokes, changes_print, strokes_print, strokes_scroll, texts_scroll}
 
--- ---- what follows
+-- ---- a second list of changes
 
 or_assoc : (a b c : Bool) → ((a || b) || c) ≡ (a || (b || c))
 or_assoc true b c = refl
@@ -49,7 +49,7 @@ pub record Stand : Type 0 where
 abbrev pub stand_of : Screen → Stand
 stand_of s = record { row = s.row; column = s.column; width = s.width; rows = height s; pen = s.pen }
 
--- the changes print these texts, nothing scrolls, and what follows them
+-- the changes print these texts, scroll nothing, and leave the cursor, the size and the pen as in `after`
 pub record Prints (width_of : List ℕ → ℕ) (d : Display) (changes : List ChangeValue) (texts : List PlacedText) (after : Stand) : Type 0 where
   pub prints : changes_print width_of d changes ≡ texts
   pub still : texts_scroll width_of d changes ≡ false
@@ -58,7 +58,7 @@ pub record Prints (width_of : List ℕ → ℕ) (d : Display) (changes : List Ch
 pub Prints-nothing : {width_of : List ℕ → ℕ} {d : Display} {at : Stand} → stand_of d.screen ≡ at → Prints width_of d [] [] at
 Prints-nothing e = record { prints = refl; still = refl; leaves = e }
 
--- others after them, which print what they print wherever these stand
+-- more changes after them, which print their texts on any display that the first ones can leave
 pub Prints-join : {width_of : List ℕ → ℕ} {d : Display} {a b : List ChangeValue} {ts us : List PlacedText} {mid after : Stand}
     → Prints width_of d a ts mid → ((e : Display) → stand_of e.screen ≡ mid → Prints width_of e b us after) → Prints width_of d (a ++ b) (ts ++ us) after
 Prints-join {width_of} {d} {a} {b} p q =

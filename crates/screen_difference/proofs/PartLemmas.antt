@@ -23,7 +23,7 @@ end_again (RightHalf a ∷ []) = refl
 end_again (x ∷ y ∷ []) = ap (λ (r : Row). x ∷ r) (end_again (y ∷ []))
 end_again (x ∷ y ∷ z ∷ r) = ap (λ (s : Row). x ∷ s) (end_again (y ∷ z ∷ r))
 
--- what is dropped takes a half at the start with it
+-- closing the start before n columns are dropped makes no difference, if it is closed afterwards
 start_dropped : (n : ℕ) (r : Row) → closed_start (drop n (closed_start r)) ≡ closed_start (drop n r)
 start_dropped zero r = start_again r
 start_dropped (suc n) [] = refl
@@ -129,7 +129,7 @@ set_cut n k m row cols e w p h =
     ++ (ap closed_end (take_start m (drop (k + length cols) row)) ∙ sym (both_ends (take m (drop (k + length cols) row)))
     ∙ ap closed_start (ap closed_end (sym (dropped_prefix (k + length cols) m row) ∙ ap (λ j. drop (k + length cols) (take j row)) e) ∙ sym (drop_end (k + length cols) (take n row)))) i)
 
--- what is set within a part is set in the row
+-- setting columns of the row that lie within a part sets them in the part
 pub set_in_part : (x n k : ℕ) (row cols : Row) → k + length cols ≤ n → x + n ≤ length row → IsWhole cols → 0 < length cols → columns_from x n (set_columns row (x + k) cols) ≡ set_columns (columns_from x n row) k cols
 set_in_part x n k row cols f h p s =
     let e : k + length cols + (n - (k + length cols)) ≡ n = omega arith in
@@ -139,9 +139,9 @@ set_in_part x n k row cols f h p s =
     ∙ ap (λ (r : Row). closed_end (take n r)) (set_started k (drop x row) cols p s)
     ∙ set_cut n k (n - (k + length cols)) (closed_start (drop x row)) cols e (omega arith) p s
 
--- ---- what stands before and after them
+-- ---- the columns before and after them
 
--- the columns before a position stay, but for a half that is left alone there
+-- the columns before a position stay, except for a half that is left alone there
 pub set_prefix : (x k : ℕ) (row cols : Row) → x + k ≤ length row → (take x (set_columns row (x + k) cols) ≡ take x row) ⊎ (take x (set_columns row (x + k) cols) ≡ closed_end (take x row))
 set_prefix x zero row cols h =
     let e : x + zero ≡ x = omega arith in

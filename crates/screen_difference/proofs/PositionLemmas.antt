@@ -1,4 +1,4 @@
--- Cells of a part of a row: their places, and what they leave where they are drawn.
+-- Cells of a part of a row: their positions, and the row after they are drawn.
 use Rattle.std.proofs.Common.{◌≡◌, ℕ, zero, suc, ◌+◌, ◌-◌, ◌<◌, ◌≤◌, ◌∙◌, Bool, false, List, [], ◌∷◌, length, take, drop, refl, sym, ap, subst, inl, inr, arith}
 use Rattle.std.specs.Prelude.{⊤, nat_le, filter, fold, if◌then◌else◌}
 use Rattle.std.proofs.lemmas.Bool.Decides.{nat_tests}
@@ -105,7 +105,7 @@ count_is width_of start stop v p =
     (λ e. ap (λ b. length (columns_of v.cell.text b v.cell.attributes)) e ∙ grind (arith, nat_tests))
     (λ e. ap (λ b. length (columns_of v.cell.text b v.cell.attributes)) e ∙ grind (arith, nat_tests))
 
--- ---- what they leave
+-- ---- the row after they are drawn
 
 abbrev pub set_visible : Row → VisibleCell → Row
 set_visible row v = set_columns row v.column (cell_columns v.cell)
@@ -116,7 +116,7 @@ kept_on closed again a b c (inl p) (inr q) = inr (q ∙ ap closed p)
 kept_on closed again a b c (inr p) (inl q) = inr (q ∙ p)
 kept_on closed again a b c (inr p) (inr q) = inr (q ∙ ap closed p ∙ again a)
 
--- the part, what stands before and after it, and the length
+-- the part with the cells set, the columns before and after it, and the length
 record Leaves (x n : ℕ) (cells : List VisibleCell) (row after : Row) : Type 0 where
   part : columns_from x n after ≡ fold (λ r v. set_columns r (v.column - x) (cell_columns v.cell)) (columns_from x n row) cells
   prefix : IsKept closed_end (take x row) (take x after)

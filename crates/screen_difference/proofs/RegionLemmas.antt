@@ -121,7 +121,7 @@ module _ (width_of : List ℕ → ℕ) (blank_is : IsSoundText width_of space fa
       (row_positions width_of blank_is x other_x (width new) stop rows k old new (e zero [] (omega arith)) (omega arith) (w zero [] (omega arith)) (s zero [] (omega arith)))
       (rows_positions stop rows (k + 1) olds news (omega arith) (λ i d l. e (suc i) d (omega arith)) (λ i d l. w (suc i) d (omega arith)) (λ i d l. s (suc i) d (omega arith)))
 
-  -- ---- what is replayed
+  -- ---- the replay of the changes
 
   take_none : (m : ℕ) → take {A = Row} m [] ≡ []
   take_none zero = refl
@@ -134,7 +134,7 @@ module _ (width_of : List ℕ → ℕ) (blank_is : IsSoundText width_of space fa
   none_after : (y n : ℕ) (rows : List Row) → length rows ≤ y → take n (drop y rows) ≡ []
   none_after y n rows l = ap (take n) (drop_all y rows l) ∙ take_none n
 
-  -- the cells of rows that are within a screen have their places
+  -- the fresh cells of rows within a screen have positions
   pub cells_positions : (s : Screen) (h : IsScreen s) (news : List Row) (y n : ℕ) → All IsWhole news → All (IsSoundRow width_of) news → HavePositions width_of s.width (height s) (rows_fresh compared y (take n (drop y s.rows)) news)
   cells_positions s h news y n w p =
       by_test (nat_le y (length s.rows))
@@ -280,7 +280,7 @@ screen_is_shown width_of d new b h g e f w p =
     ∙ append-nil (redrawn lines rows new.rows)
     ∙ rows_become d.screen.width rows new.rows (sym f) h.lawful.even even h.whole w
 
--- ---- what else stays
+-- ---- the rest of the screen stays
 
 width_stays : (cells : List PlacedCell) (s : Screen) → (all_drawn cells s).width ≡ s.width
 width_stays [] s = refl

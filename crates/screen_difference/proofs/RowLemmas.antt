@@ -17,7 +17,7 @@ use Rattle.cell_base.proofs.RowLemmas.{length-closed_start, whole_ends, whole-ap
 use Rattle.screen_difference.specs.FreshCells.{fresh, is_shown}
 use Rattle.screen_difference.proofs.FreshLemmas.{none_later, not_here, or_false}
 
--- ---- what the old columns show
+-- ---- cells that the old columns show
 
 same_is : (a b : CellContent) → same_cell a b ≡ true → a ≡ b
 same_is a b e = (same_cell_decides a b).0 e
@@ -29,7 +29,7 @@ only_first at o v row c e =
     let here : (o.column == v.column && same_cell o.cell v.cell) ≡ true = sym (or_false (o.column == v.column && same_cell o.cell v.cell)) ∙ ap (λ b. (o.column == v.column && same_cell o.cell v.cell) || b) (sym later) ∙ e in
     same_is o.cell v.cell (and_parts (o.column == v.column) (same_cell o.cell v.cell) here).1
 
--- a narrow cell that is shown stands in its column
+-- a narrow cell that the old row shows is its column there
 shows_narrow : (at : ℕ) (t : List ℕ) (a : Attributes) (x : Column) (row : Row) → is_shown (visible_from at (x ∷ row)) (visible_at at t 1 a) ≡ true → x ≡ Narrow t a
 shows_narrow at t a (Narrow u b) row e =
     let is = only_first at (visible_at at u 1 b) (visible_at at t 1 a) row refl e in
@@ -58,9 +58,9 @@ one_after at (Narrow t a) row v h = not_here (visible_at at t 1 a) (visible_from
 one_after at (LeftHalf t a) row v h = not_here (visible_at at t 2 a) (visible_from (at + 1) row) v (inl h)
 one_after at (RightHalf a) row v h = refl
 
--- ---- old columns that are what the new ones are, wherever a cell isn't drawn
+-- ---- old columns that equal the new ones, except where a cell is drawn
 
--- the cell that begins in a column is drawn, or the other column is the same
+-- the cell that begins in a column is drawn, or the old column is the same
 abbrev Agrees : (VisibleCell → Bool) → ℕ → Column → Column → Type 0
 Agrees draws at (Narrow t a) x = (draws (visible_at at t 1 a) ≡ true) ⊎ (x ≡ Narrow t a)
 Agrees draws at (LeftHalf t a) x = (draws (visible_at at t 2 a) ≡ true) ⊎ (x ≡ LeftHalf t a)
@@ -75,7 +75,7 @@ decided : (at : ℕ) (b : Bool) (P : Type 0) → (b ≡ true → P) → (not b �
 decided at true P f = inr (f refl)
 decided at false P f = inl refl
 
--- the fresh cells are such
+-- the columns agree, if the fresh cells are drawn
 all_agree : (at : ℕ) (all : List VisibleCell) (news olds : Row) → length news ≡ length olds → ((v : VisibleCell) → at ≤ v.column → is_shown all v ≡ is_shown (visible_from at olds) v) → AllAgree (λ v. not (is_shown all v)) at news olds
 all_agree at all [] olds e same = tt
 all_agree at all (n ∷ news) [] e same = absurd (omega arith)
@@ -139,7 +139,7 @@ not_drawn : {b : Bool} {P : Type 0} → b ≡ false → (b ≡ true) ⊎ P → P
 not_drawn f (inl t) = absurd (false≢true (sym f ∙ t))
 not_drawn f (inr p) = p
 
--- after a left half stands its right half
+-- in a whole row the right half comes after a left half
 pair_of : (t : List ℕ) (a : Attributes) (z : Column) (olds : Row) → IsWhole (LeftHalf t a ∷ z ∷ olds) → (z ≡ RightHalf a) × IsWhole olds
 pair_of t a (Narrow u b) olds w = absurd w
 pair_of t a (LeftHalf u b) olds w = absurd w
@@ -147,7 +147,7 @@ pair_of t a (RightHalf b) olds w = (ap RightHalf w.0, w.1)
 
 -- ---- the new columns, one after the other
 
--- each cell that isn't drawn stands there already, and each that is drawn leaves the columns after it, less a half
+-- drawing the chosen cells turns the old columns into the new ones: the other cells are there already
 drawn_all : (x at : ℕ) (draws : VisibleCell → Bool) (done news olds : Row) → at ≡ x + length done → IsWhole done → IsWhole news → IsWhole olds → length news ≡ length olds → AllAgree draws at news olds
     → fold (set_cell x) (done ++ olds) (filter draws (visible_from at news)) ≡ done ++ news
 drawn_all x at draws done [] [] e d n o l p = refl

@@ -1,4 +1,4 @@
--- Cells side by side: old ones that are passed, and what the new ones show then.
+-- Cells side by side: the old cells that are passed, and the new cells that are fresh then.
 use Rattle.std.proofs.Common.{◌≡◌, ℕ, zero, suc, ◌+◌, ◌<◌, ◌≤◌, ◌^◌, ◌∙◌, ◌⊎◌, true, false, List, [], ◌∷◌, ◌++◌, length, take, drop, refl, sym, ap, subst, inl, inr, length-append, arith}
 use Rattle.std.specs.Prelude.{⊤, ◌&&◌, ◌==◌, nat_lt, nat_le, if◌then◌else◌}
 use Rattle.std.specs.Cmp.{unsigned_Decides}
@@ -122,7 +122,7 @@ passed_split olds at (b ∷ text) a m news e h =
       | false ↦ ap (λ (vs : List VisibleCell). v ∷ vs) on
     ]
 
--- ---- a text before the old cells, and one where a text stands
+-- ---- a new text before the old cells, and one on an old text
 
 none_there : (at oc : ℕ) (cells : List VisibleCell) (cell : CellContent) → at < oc → begins_with (side_by_side oc cells) at cell ≡ false
 none_there at oc [] cell h = refl
@@ -138,7 +138,7 @@ all_fresh at oc (b ∷ text) a cells h =
     ∙ ap (λ t. if t then passed_fresh olds remaining else v ∷ passed_fresh olds remaining) (none_there at oc cells v.cell (omega arith))
     ∙ ap (λ (vs : List VisibleCell). v ∷ vs) (all_fresh (at + 1) oc text a cells (omega arith))
 
--- a cell where another stands
+-- a new cell at the column of an old one
 on_cell : (at : ℕ) (o v : CellContent) (olds news : List VisibleCell) → Later (at + 1) news
     → passed_fresh (record { column = at; cell = o } ∷ olds) (record { column = at; cell = v } ∷ news) ≡ (if same_cell o v then passed_fresh olds news else record { column = at; cell = v } ∷ passed_fresh olds news)
 on_cell at o v olds news h =
@@ -233,7 +233,7 @@ first_begins at v cells cell = ap (λ t. t && same_cell v.cell cell) ((unsigned_
 pub first_passed : (at : ℕ) (v : VisibleCell) (cells : List VisibleCell) → 1 ≤ v.cell.width → from_column (at + 1) (side_by_side at (v ∷ cells)) ≡ side_by_side (at + v.cell.width) cells
 first_passed at v cells h = from_next (at + 1) (record v { column = at }) (side_by_side (at + v.cell.width) cells) (omega arith) ∙ from_side (at + 1) (at + v.cell.width) cells (omega arith)
 
--- ---- what a step passes, by where the cells begin after it
+-- ---- the cells that a step passes, by where the remaining ones begin
 
 pub none_begins : (at oc : ℕ) (olds cells : List VisibleCell) (cell : CellContent) → side_by_side oc cells ≡ from_column at olds → at < oc → false ≡ begins_with (from_column at olds) at cell
 none_begins at oc olds cells cell e h = sym (none_there at oc cells cell h) ∙ ap (λ (os : List VisibleCell). begins_with os at cell) e
@@ -244,7 +244,7 @@ gap_passed at to oc olds cells e h k = sym (from_side to oc cells k) ∙ ap (fro
 pub on_passed : (at to oc n : ℕ) (olds cells news : List VisibleCell) → side_by_side oc cells ≡ from_column at olds → at ≤ to → oc + n ≡ to → news ≡ from_column (oc + n) (side_by_side oc cells) → news ≡ from_column to olds
 on_passed at to oc n olds cells news e h k p = p ∙ (λ i. from_column (k i) (e i)) ∙ from_twice at to olds h
 
--- ---- steps of the walk, and what they write
+-- ---- steps of the walk, and the cells that they write
 
 -- the cells of a text's prefix, and then those after it
 prefix_written : (d next : Drawing) (row : ℕ) (olds left : List VisibleCell) (at n : ℕ) (text : List ℕ) (a : Attributes) → n ≤ length text
@@ -291,7 +291,7 @@ gap_fresh at oc olds cells text a e h =
 pub left_fresh : (at : ℕ) (olds left : List VisibleCell) (text : List ℕ) (a : Attributes) → left ≡ from_column at olds → passed_fresh left (visible_each at text a) ≡ passed_fresh olds (visible_each at text a)
 left_fresh at olds left text a e = ap (λ (os : List VisibleCell). passed_fresh os (visible_each at text a)) e ∙ passed_later at olds (visible_each at text a) (later_each at at text a (omega arith))
 
--- cells of a text that stands first are passed
+-- the cells of a text at the start of the old cells are passed
 pub run_passed : (at oc to : ℕ) (olds cells : List VisibleCell) (text : List ℕ) (a : Attributes) → olds ≡ visible_each at text a ++ side_by_side oc cells → at + length text ≤ to → to ≤ oc → side_by_side oc cells ≡ from_column to olds
 run_passed at oc to olds cells text a e h k = sym (ap (from_column to) e ∙ from_each to at text a (side_by_side oc cells) h ∙ from_side to oc cells k)
 

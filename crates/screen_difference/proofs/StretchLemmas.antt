@@ -17,7 +17,7 @@ use Rattle.screen_difference.specs.FreshCells.{PlacedCell}
 
 -- ---- cells that are pushed, by stretches
 
--- a stretch after what is written
+-- the drawing after a stretch is written
 abbrev stretch_done : Written → Stretch → Drawing
 stretch_done w s = record { written = with_cells w (cells_of s); has_begun = true; row = s.row; column = fold (λ n c. n + c.width) s.column (cells_of s) }
 
@@ -55,7 +55,7 @@ by_stretches : (d : Drawing) (cells : List PlacedCell) → with_all d cells ≡ 
 by_stretches d [] = refl
 by_stretches d (c ∷ cells) = by_stretches (with_placed d c) cells ∙ one_more d c (stretches cells)
 
--- ---- what stretches write
+-- ---- the changes that stretches write
 
 -- cells after a change
 after_change : (change : ChangeValue) (w : Written) (cells : List CellContent) → finished (with_cells (with_change change w) cells) ≡ finished w ++ change ∷ cells_written w.pen cells

@@ -78,7 +78,7 @@ mixed_other column from at olds news a le h e n =
     ∙ append_assoc prefix (visible_at (column + from + (at - from)) (b ∷ []) 1 a ∷ []) rest
     ∙ ap (λ (vs : List VisibleCell). prefix ++ vs) (ap (λ k. visible_at k (b ∷ []) 1 a ∷ rest) position ∙ sym (compared column at olds news a h e ∙ ap (λ t. if t then rest else visible_at (column + at) (b ∷ []) 1 a ∷ rest) other))
 
--- where the next character is the same, those that wait are written
+-- where the next character is the same, the pending cells are written
 same_written : (d next : Drawing) (row column from at : ℕ) (olds news part : List ℕ) (a : Attributes) → at < length news → length olds ≡ length news → get_or olds at 0 ≡ get_or news at 0
     → part ≡ take (at - from) (drop from news) → next ≡ with_all d (placed row (visible_each (column + from) part a))
     → with_all next (placed row (mixed column (at + 1) (at + 1) olds news a)) ≡ with_all d (placed row (mixed column from at olds news a))
@@ -88,7 +88,7 @@ same_written d next row column from at olds news part a h e g p w =
     ∙ written_more d row (visible_each (column + from) (take (at - from) (drop from news)) a) rest
     ∙ ap (λ (vs : List VisibleCell). with_all d (placed row vs)) (mixed_same column from at olds news a h e g)
 
--- what is written, those that wait, and then what is left, go on being the whole
+-- after a step, too, the cells written so far, the pending ones and the rest make the whole drawing
 pub same_on : (whole d next after : Drawing) (row column from to at : ℕ) (olds news part : List ℕ) (a : Attributes) → after ≡ next → to ≡ at + 1 → at < length news → length olds ≡ length news → get_or olds at 0 ≡ get_or news at 0
     → part ≡ take (at - from) (drop from news) → next ≡ with_all d (placed row (visible_each (column + from) part a))
     → with_all d (placed row (mixed column from at olds news a)) ≡ whole → with_all after (placed row (mixed column to (at + 1) olds news a)) ≡ whole

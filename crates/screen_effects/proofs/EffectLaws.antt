@@ -87,7 +87,7 @@ line_cleared_is color d h =
       sized = h.sized ∙ sym (length-set {A = Row} s.rows s.row (cleared_after s.column color row));
     }
 
--- a row between others
+-- a row between other rows
 between : (P : Row → Type 0) (before after : List Row) (x : Row) → All P before → P x → All P after → All P (before ++ x ∷ after)
 between P before after x p q r = All-append P before (x ∷ after) p first
   where

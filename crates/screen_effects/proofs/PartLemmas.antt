@@ -1,4 +1,4 @@
--- The parts of a text have clusters that can stand in cells.
+-- The parts of a text have clusters that are texts of cells (`IsCellText`).
 use Rattle.std.proofs.Common.{◌≡◌, ℕ, ◌+◌, ◌/◌, ◌<◌, ◌≤◌, inl, inr, true, false, List, [], ◌∷◌, ◌++◌, length, map, refl, sym, ap, subst, ◌∙◌, arith}
 use Rattle.std.specs.Prelude.{⊤, ◌||◌, ◌⊎◌, ◌==◌, encode_utf8_all, if◌then◌else◌}
 use Rattle.std.specs.List.{list_any, concat, flat_map}

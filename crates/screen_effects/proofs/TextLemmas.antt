@@ -24,7 +24,7 @@ by_test : {P : Type 0} (b : Bool) → (b ≡ true → P) → (b ≡ false → P)
 by_test true p q = p refl
 by_test false p q = q refl
 
--- ---- the prefix without controls, and what follows it
+-- ---- the prefix without controls, and the text after it
 
 prefix : List ℕ → List ℕ
 prefix [] = []
@@ -111,7 +111,7 @@ unfolding prefix is_plain
 prefix_plain [] = refl
 prefix_plain (b ∷ text) = by_test (is_ascii_control b) (λ e. ap (list_all is_plain) (prefix_with b text e)) (λ e. ap (list_all is_plain) (prefix_on b text e) ∙ and_from (is_plain b) (list_all is_plain (prefix text)) (ap not e) (prefix_plain text))
 
--- ---- each cluster of a text without controls can stand
+-- ---- a cell can hold each cluster of a text without controls
 
 alone : (g : List ℕ) → list_all is_plain g ≡ true → is_cluster g ≡ true → shows_as_space g ≡ false
 unfolding is_plain
@@ -184,6 +184,6 @@ plain_parts text p =
     let all = no_control text p in
     parts_cut text ∙ (λ i. plain_part ((ap (λ n. take n text) all ∙ take_all (length text) text (omega arith)) i) ++ text_parts ((ap (λ n. drop n text) all ∙ drop_all (length text) text (omega arith)) i))
 
--- and each of its clusters can stand
+-- and a cell can hold each of its clusters
 pub plain_stands : (text : List ℕ) → list_all is_printable text ≡ true → concat (graphemes true text) ≡ text → stand (clusters text) ≡ true
 plain_stands text p whole = prefix_stands text text (sym (ap (λ n. take n text) (no_control text p) ∙ take_all (length text) text (omega arith))) whole

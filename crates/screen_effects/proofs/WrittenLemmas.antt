@@ -80,7 +80,7 @@ set_set [] i x y = refl
 set_set (z ∷ xs) zero x y = refl
 set_set {A} (z ∷ xs) (suc i) x y = ap (λ (l : List A). z ∷ l) (set_set xs i x y)
 
--- columns that are written after others are written with them
+-- writing columns, and then more after them, is writing them all at once
 pub write_again : (s : Screen) (a b : Row) → IsScreen s → IsWhole a → s.column + length a ≤ s.width → write_columns b (write_columns a s) ≡ write_columns (a ++ b) s
 write_again s a b h p fits =
     let row : Row = get_or s.rows s.row [] in

@@ -1,4 +1,4 @@
--- What is read of tokens.
+-- The text that is read of tokens.
 use Rattle.std.proofs.Common.{◌≡◌, ℕ, Bool, true, false, List, [], ◌∷◌, ◌++◌, refl, sym, ap, ◌∙◌, subst, append_assoc}
 use Rattle.std.specs.Prelude.{◌||◌, ◌==◌, Option, Some, None, unwrap_or, if◌then◌else◌, codes, length}
 use Rattle.std.specs.List.{flat_map, list_any}
@@ -94,41 +94,41 @@ attributes_closed markup (a ∷ attributes) named = joined is_end (attribute_tex
 
 -- ---- tokens
 
--- what is left of a token without its tags
-abbrev bare : Markup → Token → List ℕ
-bare markup (Opening name attributes) = []
-bare markup (Closing name) = []
-bare markup (Words text) = escaped markup text
+-- the bytes of a token outside of tags
+abbrev without_tags : Markup → Token → List ℕ
+without_tags markup (Opening name attributes) = []
+without_tags markup (Closing name) = []
+without_tags markup (Words text) = escaped markup text
 
-bare_token : (markup : Markup) (token : Token) (rest : List ℕ) → IsNamed token → untagged false (token_text markup token ++ rest) ≡ bare markup token ++ untagged false rest
-bare_token markup (Opening name attributes) rest named =
+token_without_tags : (markup : Markup) (token : Token) (rest : List ℕ) → IsNamed token → untagged false (token_text markup token ++ rest) ≡ without_tags markup token ++ untagged false rest
+token_without_tags markup (Opening name attributes) rest named =
     let inside = name ++ flat_map (attribute_text markup) attributes in
     ap (untagged true) (append_assoc inside (62 ∷ []) rest)
     ∙ untagged_tag inside rest (joined is_end name (flat_map (attribute_text markup) attributes) named.0 (attributes_closed markup attributes named.1))
-bare_token markup (Closing name) rest named = ap (untagged true) (append_assoc (47 ∷ name) (62 ∷ []) rest) ∙ untagged_tag (47 ∷ name) rest named
-bare_token markup (Words text) rest named = untagged_text (escaped markup text) rest (text_closed markup text)
+token_without_tags markup (Closing name) rest named = ap (untagged true) (append_assoc (47 ∷ name) (62 ∷ []) rest) ∙ untagged_tag (47 ∷ name) rest named
+token_without_tags markup (Words text) rest named = untagged_text (escaped markup text) rest (text_closed markup text)
 
-bare_tokens : (markup : Markup) (tokens : List Token) → AreTagged tokens → untagged false (flat_map (token_text markup) tokens) ≡ flat_map (bare markup) tokens
-bare_tokens markup [] named = refl
-bare_tokens markup (token ∷ tokens) named =
-    bare_token markup token (flat_map (token_text markup) tokens) named.0
-    ∙ ap (λ (t : List ℕ). bare markup token ++ t) (bare_tokens markup tokens named.1)
+tokens_without_tags : (markup : Markup) (tokens : List Token) → AreTagged tokens → untagged false (flat_map (token_text markup) tokens) ≡ flat_map (without_tags markup) tokens
+tokens_without_tags markup [] named = refl
+tokens_without_tags markup (token ∷ tokens) named =
+    token_without_tags markup token (flat_map (token_text markup) tokens) named.0
+    ∙ ap (λ (t : List ℕ). without_tags markup token ++ t) (tokens_without_tags markup tokens named.1)
 
 put_nothing : (text : Option (List ℕ)) → put_before [] text ≡ text
 put_nothing None = refl
 put_nothing (Some t) = refl
 
-token_back : (markup : Markup) (token : Token) (rest : List ℕ) → read_after None (bare markup token ++ rest) ≡ put_before (token_content markup token) (read_after None rest)
+token_back : (markup : Markup) (token : Token) (rest : List ℕ) → read_after None (without_tags markup token ++ rest) ≡ put_before (token_content markup token) (read_after None rest)
 token_back markup (Opening name attributes) rest = sym (put_nothing (read_after None rest))
 token_back markup (Closing name) rest = sym (put_nothing (read_after None rest))
 token_back markup (Words text) rest = text_back markup text rest
 
-tokens_back : (markup : Markup) (tokens : List Token) → read_after None (flat_map (bare markup) tokens) ≡ Some (tokens_content markup tokens)
+tokens_back : (markup : Markup) (tokens : List Token) → read_after None (flat_map (without_tags markup) tokens) ≡ Some (tokens_content markup tokens)
 tokens_back markup [] = refl
 tokens_back markup (token ∷ tokens) =
-    token_back markup token (flat_map (bare markup) tokens)
+    token_back markup token (flat_map (without_tags markup) tokens)
     ∙ ap (put_before (token_content markup token)) (tokens_back markup tokens)
 
 pub content_back : (markup : Markup) (tokens : List Token) → AreTagged tokens → content (tokens_text markup tokens) ≡ Some (tokens_content markup tokens)
 unfolding tokens_text
-content_back markup tokens named = ap (read_after None) (bare_tokens markup tokens named) ∙ tokens_back markup tokens
+content_back markup tokens named = ap (read_after None) (tokens_without_tags markup tokens named) ∙ tokens_back markup tokens

@@ -40,7 +40,7 @@ plain_bytes (b ∷ bytes) rest e =
     ∙ ap (put_before (b ∷ [])) (plain_bytes bytes rest parts.1)
     ∙ put_joined (b ∷ []) bytes (read_after None rest)
 
--- ---- the bytes of a character above ASCII are such
+-- ---- the bytes of a character above ASCII are read as they are
 
 high_byte : (x : ℕ) → 128 ≤ x → is_special x ≡ false
 high_byte x h = grind (arith, nat_tests)
@@ -128,7 +128,7 @@ escaped_back markup text =
 
 -- ---- a loop over the characters
 
--- what is written, and then what is left, are the whole
+-- after one more character, too, the text written so far and the escaped rest are the whole
 pub char_pushed : (markup : Markup) (c : ℕ) (before after text rest whole : List ℕ) → IsUtf8 text → text ≡ encode_utf8 c ++ rest → after ≡ before ++ escaped_char (held markup c)
     → before ++ escaped markup text ≡ whole → after ++ escaped markup rest ≡ whole
 char_pushed markup c before after text rest whole utf8 parts pushed so_far =

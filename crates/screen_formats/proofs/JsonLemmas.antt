@@ -40,7 +40,7 @@ pub screen_plain : (screen : Screen) → has_float (screen_data screen) ≡ fals
 unfolding screen_object cursor_data
 screen_plain screen = λ i. (false || (false || (false || false))) || (false || (rows_plain screen.rows i || (false || (false || false))))
 
--- ---- it nests a few levels deep
+-- ---- its depth
 
 colors_depth : (a : Attributes) → depth (colors_data a) ≡ 1
 unfolding colors_data

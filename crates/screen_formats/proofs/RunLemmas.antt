@@ -47,7 +47,7 @@ runs_made groups (v ∷ cells) cut =
 pub runs_are_made : (cells : List VisibleCell) → fold with_cell [] cells ≡ runs_of cells
 runs_are_made cells = runs_made [] cells tt
 
--- the last run alone sees the cell
+-- a cell changes only the last run
 pub with_cell_last : (runs : List Run) (last : Run) (v : VisibleCell) → with_cell (runs ++ last ∷ []) v ≡ runs ++ with_cell (last ∷ []) v
 with_cell_last [] last v = refl
 with_cell_last (run ∷ []) last v = refl
@@ -64,13 +64,13 @@ texts_of_groups (cells ∷ groups) =
 pub texts_of_runs : (cells : List VisibleCell) → flat_map (λ run. run.text) (runs_of cells) ≡ texts_joined cells
 texts_of_runs cells = texts_of_groups (groups_by begins_run cells) ∙ ap texts_joined (groups_are_cut begins_run cells).whole
 
--- ---- the looks of the cells
+-- ---- the rendition of the cells
 
 unless : (b : Bool) → not b ≡ false → b ≡ true
 unless true e = refl
 unless false e = sym e
 
--- cells that go on after a first one look as the runs that it begins
+-- cells that continue the run of a first cell have the run's attributes and width
 rest_renders : (first : VisibleCell) (rest before cells : List VisibleCell) → GoOn begins_run (first ∷ before) cells → AllByRecursion (RendersAs (run_of (first ∷ rest))) cells
 rest_renders first rest before [] h = tt
 rest_renders first rest before (v ∷ cells) h =

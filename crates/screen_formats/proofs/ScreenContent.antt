@@ -1,4 +1,4 @@
--- What is read of a screen as HTML and as SVG.
+-- The text that is read of a screen as HTML and as SVG.
 use Rattle.std.proofs.Common.{◌≡◌, ℕ, ◌+◌, ◌-◌, Bool, true, false, List, [], ◌∷◌, ◌++◌, refl, ap, ◌∙◌}
 use Rattle.std.specs.Prelude.{◌==◌, min, Some, codes, length, if◌then◌else◌}
 use Rattle.std.specs.List.{flat_map, list_any}
@@ -9,19 +9,19 @@ use Rattle.std.proofs.lemmas.Grind.{flat_map-append}
 use Rattle.cell_base.specs.Row.{Row}
 use Rattle.cell_base.specs.Screen.{Screen}
 use Rattle.cell_edits.specs.VisibleCells.{visible_cells}
-use Rattle.screen_formats.specs.Colors.{default_background, default_foreground, has_background, hex_color, paper}
+use Rattle.screen_formats.specs.Colors.{default_background, default_foreground, has_background, hex_color, background_color}
 use Rattle.screen_formats.specs.Content.{AreTagged, content, html_content, is_end, token_content, tokens_content, row_content, svg_content}
 use Rattle.screen_formats.specs.Escape.{held_text}
 use Rattle.screen_formats.specs.Html.{html_tokens, html_row, html_rows, html_run, html_text}
 use Rattle.screen_formats.specs.Links.{link_uri}
 use Rattle.screen_formats.specs.Tokens.{Token, Opening, Closing, Words, element}
 use Rattle.screen_formats.specs.Runs.{Run, runs_of}
-use Rattle.screen_formats.specs.Svg.{column_units, placed_text, rectangle, row_units, sized_opening, svg_cursor, svg_head, svg_letters, svg_opening, svg_paper, svg_part, svg_tokens, svg_row, svg_rows, svg_text, svg_text_of, Text}
+use Rattle.screen_formats.specs.Svg.{column_units, placed_text, rectangle, row_units, sized_opening, svg_cursor, svg_head, svg_letters, svg_opening, svg_background, svg_part, svg_tokens, svg_row, svg_rows, svg_text, svg_text_of, Text}
 use Rattle.screen_formats.specs.declared.escape.Markup.{Markup}
 use Rattle.screen_formats.specs.declared.escape.Markup.TheVariants.{Html, Xml}
 use Rattle.screen_formats.proofs.ContentLemmas.{content_back}
 
--- ---- tokens, and what they hold
+-- ---- tokens and their content
 
 -- the tokens are named, and hold this text
 abbrev Holds : Markup → List Token → List ℕ → Type 0
@@ -101,10 +101,10 @@ text_holds row run =
     let uri = link_uri run.attributes in
     either (length uri == 0) (svg_letters row run) _ (held_text Xml run.text) (letters_hold row run) (in_link uri (svg_letters row run) (held_text Xml run.text) (letters_hold row run))
 
-paper_holds : (row : ℕ) (run : Run) → Holds Xml (svg_paper row run) []
-unfolding svg_paper
+paper_holds : (row : ℕ) (run : Run) → Holds Xml (svg_background row run) []
+unfolding svg_background
 paper_holds row run =
-    either (has_background run.attributes) _ [] [] (rectangle_holds (column_units run.column) (row_units row) (column_units run.columns) (codes "20") (hex_color (paper run.attributes)) []) (tt, refl)
+    either (has_background run.attributes) _ [] [] (rectangle_holds (column_units run.column) (row_units row) (column_units run.columns) (codes "20") (hex_color (background_color run.attributes)) []) (tt, refl)
 
 svg_row_holds : (at : ℕ) (row : Row) → Holds Xml (svg_row at row) (row_content Xml row)
 unfolding svg_row

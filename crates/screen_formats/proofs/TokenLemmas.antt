@@ -14,7 +14,7 @@ pub written_none : (markup : Markup) (now : List ℕ) → now ≡ now ++ tokens_
 unfolding tokens_text
 written_none markup now = sym (append-nil now)
 
--- more after what is written
+-- the text of more tokens, after the text of those done
 pub written_more : (markup : Markup) (start now next : List ℕ) (done more : List Token) → now ≡ start ++ tokens_text markup done → next ≡ now ++ tokens_text markup more → next ≡ start ++ tokens_text markup (done ++ more)
 written_more markup start now next done more so_far step =
     step

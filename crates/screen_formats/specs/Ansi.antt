@@ -29,7 +29,7 @@ rendition_codes a =
     ++ (text_if a.overline (codes ";53")
     ++ (align_rendition a.vertical_align).code)))))))
 
--- the parameter of a layer (38 text, 48 after it) and its colour
+-- the parameter of a layer (38 foreground, 48 background) and its colour
 unfoldable pub color_code : Text → ColorAttribute → Text
 color_code layer Default = []
 color_code layer (PaletteIndex n) = 59 ∷ (layer ++ (codes ";5;" ++ decimal n))

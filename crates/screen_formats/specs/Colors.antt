@@ -60,22 +60,22 @@ abbrev pub foreground_color : Attributes → Rgb
 foreground_color a =
     if a.reverse then color_of default_background a.background else color_of default_foreground a.foreground
 
--- the colour after the text
-abbrev pub paper : Attributes → Rgb
-paper a = if a.reverse then color_of default_foreground a.foreground else color_of default_background a.background
+-- the colour of the background; reverse video swaps it with that of the text
+abbrev pub background_color : Attributes → Rgb
+background_color a = if a.reverse then color_of default_foreground a.foreground else color_of default_background a.background
 
 abbrev pub midway : Rgb → Rgb → Rgb
 midway one other = ((one.0 + other.0) / 2, (one.1 + other.1) / 2, (one.2 + other.2) / 2)
 
--- a text that is half as bright is midway to what follows it
+-- the colour of a text of half intensity is midway to that of the background
 abbrev pub dimmed : Intensity → Rgb → Rgb → Rgb
-dimmed Normal prefix after = prefix
-dimmed Bold prefix after = prefix
-dimmed Half prefix after = midway prefix after
+dimmed Normal text background = text
+dimmed Bold text background = text
+dimmed Half text background = midway text background
 
--- the colour of the text; one that is hidden has that of what follows it
-abbrev pub ink : Attributes → Rgb
-ink a = if a.invisible then paper a else dimmed a.intensity (foreground_color a) (paper a)
+-- the colour of the text; that of the background where the text is hidden
+abbrev pub text_color : Attributes → Rgb
+text_color a = if a.invisible then background_color a else dimmed a.intensity (foreground_color a) (background_color a)
 
 abbrev pub is_default : ColorAttribute → Bool
 is_default Default = true

@@ -6,7 +6,7 @@ use Rattle.cell_base.specs.Attributes.{Attributes}
 use Rattle.cell_base.specs.Row.{Row}
 use Rattle.cell_base.specs.Screen.{Screen}
 use Rattle.cell_edits.specs.VisibleCells.{visible_cells}
-use Rattle.screen_formats.specs.Colors.{default_background, default_foreground, has_background, hex_color, ink, paper}
+use Rattle.screen_formats.specs.Colors.{default_background, default_foreground, has_background, hex_color, text_color, background_color}
 use Rattle.screen_formats.specs.Links.{link_uri}
 use Rattle.screen_formats.specs.Renditions.{color_style, rendition_style, rendition_words}
 use Rattle.screen_formats.specs.Tokens.{Token, Opening, Closing, Words, element, tokens_text}
@@ -14,7 +14,7 @@ use Rattle.screen_formats.specs.Runs.{Run, runs_of}
 use Rattle.screen_formats.specs.declared.escape.Markup.TheVariants.{Html}
 
 abbrev pub background_style : Attributes → List ℕ
-background_style a = if has_background a then color_style (codes "background-color") (hex_color (paper a)) else []
+background_style a = if has_background a then color_style (codes "background-color") (hex_color (background_color a)) else []
 
 -- whether a font may give other widths to cells than as many digits have: to those of two columns, and to all but ASCII
 abbrev pub is_uneven : Run → Bool
@@ -26,7 +26,7 @@ width_style is_set columns =
     if is_set then codes "display:inline-block;width:" ++ decimal columns ++ codes "ch;" else []
 
 abbrev pub ink_style : Attributes → List ℕ
-ink_style a = color_style (codes "color") (hex_color (ink a))
+ink_style a = color_style (codes "color") (hex_color (text_color a))
 
 -- the style of cells that take some columns, which are set or those of the font
 unfoldable pub html_style : Attributes → Bool → ℕ → List ℕ

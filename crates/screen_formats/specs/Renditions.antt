@@ -11,7 +11,7 @@ use Rattle.cell_base.specs.declared.attributes.Blink.TheVariants.{None as no_bli
 use Rattle.cell_base.specs.declared.attributes.VerticalAlign.{VerticalAlign}
 use Rattle.cell_base.specs.declared.attributes.VerticalAlign.TheVariants.{BaseLine, SuperScript, SubScript}
 use Rattle.cell_base.specs.Style.{is_underlined}
-use Rattle.screen_formats.specs.Colors.{color_of, hex_color, ink, is_default}
+use Rattle.screen_formats.specs.Colors.{color_of, hex_color, text_color, is_default}
 
 abbrev pub Text : Type 0
 Text = List ℕ
@@ -20,7 +20,7 @@ Text = List ℕ
 abbrev pub text_if : Bool → Text → Text
 text_if holds text = if holds then text else []
 
--- a look: its word, with a space after it; its parameter of SGR (ECMA-48 8.3.117), after a `;`; and its declaration
+-- a rendition: its word, with a space after it; its parameter of SGR (ECMA-48 8.3.117), after a `;`; and its declaration
 -- of CSS
 pub record Rendition : Type 0 where
   pub word : Text
@@ -93,7 +93,7 @@ lines_declared lines = if length lines == 0 then [] else codes "text-decoration:
 abbrev pub underline_color_style : Attributes → Text
 underline_color_style a =
     if is_default a.underline_color then []
-    else color_style (codes "text-decoration-color") (hex_color (color_of (ink a) a.underline_color))
+    else color_style (codes "text-decoration-color") (hex_color (color_of (text_color a) a.underline_color))
 
 -- how a text looks, less its colours
 abbrev pub rendition_style : Attributes → Text

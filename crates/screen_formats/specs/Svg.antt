@@ -6,7 +6,7 @@ use Rattle.cell_base.specs.Attributes.{Attributes}
 use Rattle.cell_base.specs.Row.{Row}
 use Rattle.cell_base.specs.Screen.{Screen}
 use Rattle.cell_edits.specs.VisibleCells.{visible_cells}
-use Rattle.screen_formats.specs.Colors.{default_background, default_foreground, has_background, hex_color, ink, paper}
+use Rattle.screen_formats.specs.Colors.{default_background, default_foreground, has_background, hex_color, text_color, background_color}
 use Rattle.screen_formats.specs.Links.{link_uri}
 use Rattle.screen_formats.specs.Renditions.{color_style, rendition_style, rendition_words}
 use Rattle.screen_formats.specs.Tokens.{Token, Opening, Closing, Words, element, tokens_text}
@@ -51,14 +51,14 @@ linked uri tokens =
 -- ---- runs
 
 unfoldable pub svg_style : Attributes → Text
-svg_style a = color_style (codes "fill") (hex_color (ink a)) ++ rendition_style a
+svg_style a = color_style (codes "fill") (hex_color (text_color a)) ++ rendition_style a
 
 -- the background of a run, if a colour is seen there
-unfoldable pub svg_paper : ℕ → Run → List Token
-svg_paper row run =
+unfoldable pub svg_background : ℕ → Run → List Token
+svg_background row run =
     if has_background run.attributes
     then rectangle (column_units run.column) (row_units row) (column_units run.columns) (codes "20")
-    (hex_color (paper run.attributes)) [] else []
+    (hex_color (background_color run.attributes)) [] else []
 
 abbrev pub svg_letters : ℕ → Run → List Token
 svg_letters row run =
@@ -73,7 +73,7 @@ svg_text_of row run = linked (link_uri run.attributes) (svg_letters row run)
 -- of a run its text, or its background
 abbrev pub svg_part : Bool → ℕ → Run → List Token
 svg_part true row run = svg_text_of row run
-svg_part false row run = svg_paper row run
+svg_part false row run = svg_background row run
 
 -- the backgrounds of the runs come first, and then the texts, drawn over them
 abbrev pub svg_runs : ℕ → List Run → List Token
@@ -110,7 +110,7 @@ sized_opening width height view_box =
 unfoldable pub svg_opening : Text → Text → List Token
 svg_opening width height = sized_opening width height (codes "0 0 " ++ (width ++ 32 ∷ height))
 
--- the picture's size, the title, and what follows everything
+-- the picture's size, the title, and the rectangle behind all rows
 abbrev pub svg_head : Text → Text → Text → List Token
 svg_head width height title =
     svg_opening width height

@@ -2,7 +2,7 @@
 ghost use Rattle.std.specs.Prelude.{◌≡◌, ◌<◌, slice_index_or, IfOk};
 ghost use Rattle.std.specs.String.{string_bytes};
 ghost use Rattle.screen_formats.specs.Colors.{color_of, default_background, default_foreground, foreground_color, grey};
-ghost use Rattle.screen_formats.specs.Colors.{has_background, hex_color, ink, level, midway, palette_color, paper};
+ghost use Rattle.screen_formats.specs.Colors.{has_background, hex_color, text_color, level, midway, palette_color, background_color};
 ghost use Rattle.screen_formats.specs.Colors.{system_color};
 
 use cell_base::{CellAttributes, ColorAttribute, Intensity};
@@ -106,9 +106,9 @@ fn foreground_color(attrs: &CellAttributes) -> Rgb
     }
 }
 
-/// The colour after a text: that of the text where both change places.
-pub fn paper(attrs: &CellAttributes) -> Rgb
-    ensures { result ≡ paper attrs.now }
+/// The colour of the background; reverse video swaps it with that of the text.
+pub fn background_color(attrs: &CellAttributes) -> Rgb
+    ensures { result ≡ background_color attrs.now }
 {
     if attrs.reverse() {
         color_of(DEFAULT_FOREGROUND, attrs.foreground())
@@ -117,20 +117,20 @@ pub fn paper(attrs: &CellAttributes) -> Rgb
     }
 }
 
-/// The colour of a text: that after it where the text is hidden, and midway to that where it is half as bright.
-pub fn ink(attrs: &CellAttributes) -> Rgb
-    ensures { result ≡ ink attrs.now }
+/// The colour of a text: that of the background where it is hidden, and midway to that at half intensity.
+pub fn text_color(attrs: &CellAttributes) -> Rgb
+    ensures { result ≡ text_color attrs.now }
 {
     if attrs.invisible() {
-        return paper(attrs);
+        return background_color(attrs);
     }
     if attrs.intensity() == Intensity::Half {
-        return midway(foreground_color(attrs), paper(attrs));
+        return midway(foreground_color(attrs), background_color(attrs));
     }
     foreground_color(attrs)
 }
 
-// Whether a colour was set after a text, or both change places.
+// Whether a background is seen: one is set, or reverse video swaps both colours.
 pub(crate) fn has_background(attrs: &CellAttributes) -> bool
     ensures { result ≡ has_background attrs.now }
 {

@@ -7,7 +7,9 @@ ghost use Rattle.screen_formats.specs.Html.{html_style, html_text, ink_style, is
 ghost use Rattle.screen_formats.specs.Tokens.{tokens_text};
 ghost use Rattle.screen_formats.specs.declared.escape.Markup.TheVariants.{Html};
 
-use crate::colors::{DEFAULT_BACKGROUND, DEFAULT_FOREGROUND, has_background, ink, paper};
+use crate::colors::{
+    DEFAULT_BACKGROUND, DEFAULT_FOREGROUND, background_color, has_background, text_color,
+};
 use crate::escape::Markup;
 use crate::links::link_uri;
 use crate::renditions::{color_style, rendition_style, rendition_words};
@@ -19,14 +21,14 @@ use cell_surface::Surface;
 use std::alloc::{AllocError, Global};
 use text_clusters::are_printable;
 
-// The declaration of the colour after a text, if one is seen.
+// The declaration of the background's colour, if one is seen.
 fn background_style(alloc: Global, attrs: &CellAttributes) -> Result<String, AllocError>
     ensures { IfOk result (λ style. string_bytes style ≡ background_style attrs.now) }
 {
     if !has_background(attrs) {
         return Ok(String::new(alloc));
     }
-    let style = color_style(alloc, "background-color", paper(attrs))?;
+    let style = color_style(alloc, "background-color", background_color(attrs))?;
     Ok(style)
 }
 
@@ -52,7 +54,7 @@ fn width_style(alloc: Global, is_set: bool, columns: usize) -> Result<String, Al
 fn ink_style(alloc: Global, attrs: &CellAttributes) -> Result<String, AllocError>
     ensures { IfOk result (λ style. string_bytes style ≡ ink_style attrs.now) }
 {
-    let style = color_style(alloc, "color", ink(attrs))?;
+    let style = color_style(alloc, "color", text_color(attrs))?;
     Ok(style)
 }
 

@@ -7,7 +7,7 @@ ghost use Rattle.screen_formats.specs.Renditions.{lines_declared, lines_style, r
 ghost use Rattle.screen_formats.specs.Renditions.{text_if};
 ghost use Rattle.screen_formats.specs.Renditions.{underline_color_style, underline_rendition};
 
-use crate::colors::{Rgb, color_of, ink};
+use crate::colors::{Rgb, color_of, text_color};
 use cell_base::{Blink, CellAttributes, ColorAttribute, Intensity, Underline, VerticalAlign};
 use std::alloc::{AllocError, Global};
 
@@ -163,7 +163,11 @@ fn underline_color_style(alloc: Global, attrs: &CellAttributes) -> Result<String
     if color == ColorAttribute::Default {
         return Ok(String::new(alloc));
     }
-    let style = color_style(alloc, "text-decoration-color", color_of(ink(attrs), color))?;
+    let style = color_style(
+        alloc,
+        "text-decoration-color",
+        color_of(text_color(attrs), color),
+    )?;
     Ok(style)
 }
 

@@ -5,12 +5,12 @@ ghost use Rattle.std.specs.List.{flat_map};
 ghost use Rattle.cell_surface.specs.Surface.{shown_by};
 ghost use Rattle.screen_formats.specs.Tokens.{Closing, Words, tokens_text};
 ghost use Rattle.screen_formats.specs.Svg.{base_line, column_units, placed_text, rectangle, row_units, sized_opening};
-ghost use Rattle.screen_formats.specs.Svg.{svg_cursor, svg_head, svg_letters, svg_opening, svg_paper, svg_part};
+ghost use Rattle.screen_formats.specs.Svg.{svg_cursor, svg_head, svg_letters, svg_opening, svg_background, svg_part};
 ghost use Rattle.screen_formats.specs.Svg.{svg_row, svg_rows, svg_runs, svg_style, svg_text, svg_text_of};
 ghost use Rattle.screen_formats.specs.declared.escape.Markup.TheVariants.{Xml};
 
 use crate::colors::{
-    DEFAULT_BACKGROUND, DEFAULT_FOREGROUND, has_background, hex_color, ink, paper,
+    DEFAULT_BACKGROUND, DEFAULT_FOREGROUND, background_color, has_background, hex_color, text_color,
 };
 use crate::escape::Markup;
 use crate::links::link_uri;
@@ -54,7 +54,7 @@ fn base_line(alloc: Global, row: usize) -> Result<String, AllocError>
 fn svg_style(alloc: Global, attrs: &CellAttributes) -> Result<String, AllocError>
     ensures { IfOk result (λ style. string_bytes style ≡ svg_style attrs.now) }
 {
-    let mut style = color_style(alloc, "fill", ink(attrs))?;
+    let mut style = color_style(alloc, "fill", text_color(attrs))?;
     style.push_str(&rendition_style(alloc, attrs)?)?;
     Ok(style)
 }
@@ -123,10 +123,15 @@ fn push_placed_text<'a>(
     Ok(())
 }
 
-// Writes what follows a run, if a colour is seen there.
-#[tactic(auto, unfolding(crate::specs::Svg::svg_paper))]
-fn push_paper(alloc: Global, out: &mut String, row: usize, run: &Run<'_>) -> Result<(), AllocError>
-    ensures { OnOk result (string_bytes out.new ≡ string_bytes out.old ++ tokens_text Xml (svg_paper row run.now)) }
+// Writes the rectangle behind a run, if it has a background.
+#[tactic(auto, unfolding(crate::specs::Svg::svg_background))]
+fn push_background(
+    alloc: Global,
+    out: &mut String,
+    row: usize,
+    run: &Run<'_>,
+) -> Result<(), AllocError>
+    ensures { OnOk result (string_bytes out.new ≡ string_bytes out.old ++ tokens_text Xml (svg_background row run.now)) }
 {
     if !has_background(run.attrs) {
         return Ok(());
@@ -134,7 +139,7 @@ fn push_paper(alloc: Global, out: &mut String, row: usize, run: &Run<'_>) -> Res
     let x = column_units(alloc, run.column)?;
     let y = row_units(alloc, row)?;
     let width = column_units(alloc, run.columns)?;
-    let fill = hex_color(alloc, paper(run.attrs))?;
+    let fill = hex_color(alloc, background_color(run.attrs))?;
     push_rectangle(out, &x, &y, &width, "20", &fill, "")?;
     Ok(())
 }
@@ -173,7 +178,7 @@ fn push_text(alloc: Global, out: &mut String, row: usize, run: &Run<'_>) -> Resu
     Ok(())
 }
 
-// Writes the text of a run, or what follows it.
+// Writes the text of a run, or the rectangle behind it.
 fn push_part(
     alloc: Global,
     out: &mut String,
@@ -187,12 +192,12 @@ fn push_part(
     if is_text {
         push_text(alloc, out, row, run)?;
     } else {
-        push_paper(alloc, out, row, run)?;
+        push_background(alloc, out, row, run)?;
     }
     Ok(())
 }
 
-// Writes the texts of runs, or what follows them.
+// Writes the texts of runs, or the rectangles behind them.
 fn push_parts(
     alloc: Global,
     out: &mut String,
@@ -299,7 +304,7 @@ fn push_svg_opening<'a>(
     Ok(())
 }
 
-// Writes what comes before the rows: the picture's tag, the title, and what follows everything.
+// Writes what comes before the rows: the picture's tag, the title, and the rectangle behind all rows.
 fn push_head<'a>(
     alloc: Global,
     out: &mut String,

@@ -51,7 +51,7 @@ line_cleared l =
     let all : (blanks_set l 0 (length l.columns) plain).columns ≡ plain_row (length l.columns) = ap (λ (y : LineContent). y.columns) (all_blank l plain) in
     λ i. record l { number = number i; bits = SingleWidthLine; columns = all i }
 
--- ---- what a grid shows
+-- ---- the display of a grid
 
 module _ {W : Type 0} where
   -- displays of equal parts
@@ -76,7 +76,7 @@ module _ {W : Type 0} where
   pub line_width : (c : Grid W) (row : ℕ) → IsDrawn c → row < length c.lines → length (line_at c.lines row).columns ≡ c.width
   line_width c row h k = ap length (sym (row_shown c row k)) ∙ h.lawful.lawful.even row [] (let n = rows_shown c in omega arith)
 
-  -- what a step shows that leaves lawful displays
+  -- a step shows `d` where the display after it is `d`, which is lawful
   pub shows_by : (before after : Grid W) (d : Display) → IsDisplay d → display_of after ≡ d → after.widths ≡ before.widths → All IsRow after.lines → Shows before after d
   shows_by before after d lawful same widths rows = record {
     same = same;

@@ -83,7 +83,7 @@ module _ {X : Type 0} (f : X → X) (lines new : List X) (first after count : �
       (e ∙ ap (λ (xs : List X). xs ++ drop after lines) (sym (append_assoc (take first lines) (drop count region) (take count region))))
       ∙ ap (λ (xs : List X). xs ++ drop after lines) (append_assoc (take first lines) (drop count region) (map f (take count region)))
 
-  -- to the end, likewise
+  -- the region's elements moved to the end, and those that left it were changed
   pub moved_down : new ≡ take first lines ++ (drop (after - first - count) region ++ take (after - first - count) region) ++ drop after lines
       → take first new ++ map f (take (first + count - first) (drop first new)) ++ drop (first + count) new
       ≡ take first lines ++ (map f (drop (length region - count) region) ++ take (length region - count) region) ++ drop after lines

@@ -23,7 +23,7 @@ use Rattle.screen_effects.proofs.StrokeLaws.{stroke_is}
 
 -- ---- columns that are written at the cursor
 
--- a text of one column or of two has so many
+-- a text of width 1 or 2 has that many columns
 pub count_columns : (text : List ℕ) (width : ℕ) (a : Attributes) → 1 ≤ width → width ≤ 2 → length (columns_of text (nat_le 2 width) a) ≡ width
 count_columns text zero a h k = absurd (omega arith)
 count_columns text (suc zero) a h k = refl
@@ -40,7 +40,7 @@ module _ {W : Type 0} where
   pub rows_with : (c : Grid W) (columns : Row) → IsDrawn c → All IsRow (set c.lines c.row (line_with c columns))
   rows_with c columns h = All-set IsRow c.lines c.row (line_with c columns) (h.rows c.row (line_of 0 []) (row_in c h)) h.rows
 
-  -- what a line's call makes of a cell that fits
+  -- the line's call with a cell that fits sets the columns of the cell
   pub line_set : (c : Grid W) (text : List ℕ) (width : ℕ) (wide : Bool) → IsDrawn c → shows_as_space text ≡ false → nat_le 2 (max 1 width) ≡ wide → c.column + length (columns_of text wide c.pen) ≤ c.width
       → grapheme_set (line_at c.lines c.row) c.column text width c.pen 0 ≡ line_with c (columns_of text wide c.pen)
   line_set c text width wide h s w k =

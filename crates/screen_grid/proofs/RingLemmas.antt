@@ -1,4 +1,4 @@
--- Items that stand from one place of a list on.
+-- The items of a list from an index on.
 use Rattle.std.proofs.Common.{◌≡◌, ℕ, zero, suc, ◌+◌, ◌-◌, ◌<◌, ◌≤◌, List, [], ◌∷◌, ◌++◌, length, get_or, take, drop, set, swap, refl, sym, ap, ◌∙◌, arith, rules, length-append, length-drop, length-take-le, length-set}
 use Rattle.std.specs.Prelude.{min}
 use Rattle.std.specs.List.{refill}
@@ -22,7 +22,7 @@ module _ {X : Type 0} (d : X) (old now new : List X) (start at : ℕ) where
       ∙ (λ i. prefix i ++ same i ∷ [])
       ∙ sym (take_more (drop start old) at d (omega arith))
 
-  -- the others stand where they stood
+  -- the items after that keep their positions
   pub rest_stay : start + at < length old → length now ≡ length old → drop (start + at) now ≡ drop (start + at) old → new ≡ swap now at (start + at) → drop (start + (at + 1)) new ≡ drop (start + (at + 1)) old
   rest_stay h n rest e =
       let y = get_or now (start + at) d in
@@ -50,7 +50,7 @@ first_left xs new value start len n m e k v =
     ap (λ (l : List _). take m (drop start l)) k ∙ ap (take m) (drop-take start m xs) ∙ take-take m m (drop start xs) (omega arith) ∙ ap (λ i. take i (drop start xs)) e
     ∙ sym (first_of_both n len (drop start xs)) ∙ ap (take n) v
 
--- one item more follows the others
+-- one more item follows the items
 pub one_after : {X : Type 0} (xs new : List X) (start len : ℕ) (x : X) → start + len ≤ length xs → take (start + len + 1) new ≡ take (start + len) xs ++ x ∷ [] → take (len + 1) (drop start new) ≡ take len (drop start xs) ++ x ∷ []
 one_after {X} xs new start len x h e =
     let next : start + (len + 1) ≡ start + len + 1 = omega arith in
@@ -62,7 +62,7 @@ one_after {X} xs new start len x h e =
 pub counted : {X : Type 0} (xs value : List X) (start len : ℕ) → start + len ≤ length xs → take len (drop start xs) ≡ value → length value ≡ len
 counted xs value start len h e = let n = length-drop start xs in sym (ap length e) ∙ length-take-le len (drop start xs) (omega arith)
 
--- from the next position on there are the others, and one more after them
+-- from the next index on come the items after the first one
 pub turned_on : {X : Type 0} (xs value : List X) (start len : ℕ) → take len (drop start xs) ≡ value → 0 < length value → start + len ≤ length xs → take (length value - 1) (take len (drop (start + 1) xs)) ≡ drop 1 value
 turned_on xs value start len e some h =
     let n = counted xs value start len h e in
@@ -120,7 +120,7 @@ refilled xs ws e = take-append-le (length xs) ws (drop (length ws) xs) (omega ar
 pub refilled_by : {X : Type 0} (n : ℕ) (xs ws : List X) → n ≡ length xs → length ws ≡ length xs → take n (ws ++ drop (length ws) xs) ≡ ws
 refilled_by n xs ws h e = ap (λ m. take m (ws ++ drop (length ws) xs)) h ∙ refilled xs ws e
 
--- an item comes into the place of one of them
+-- an item replaces one of them
 pub one_lent : {X : Type 0} (xs : List X) (start len at : ℕ) (x : X) → at < len → start + len ≤ length xs → take len (drop start (set xs (start + at) x)) ≡ set (take len (drop start xs)) at x
 one_lent xs start len at x h k =
     let long = length-set xs (start + at) x in

@@ -45,7 +45,7 @@ pub not_true : (b : Bool) → not b ≡ true → b ≡ false
 not_true true e = sym e
 not_true false e = refl
 
--- the columns of a cluster that can stand, where they fit on the screen
+-- the columns of a cluster that a cell can hold, where they fit on the screen
 pub same_columns : (width_of : List ℕ → ℕ) (cluster : List ℕ) (width : ℕ) (a : Attributes) → shows_as_space cluster ≡ false → length (cell_columns (cell_of cluster (width_of cluster) a)) ≤ width
     → columns_of (if nat_le 2 (width_of cluster) && width == 1 then space else cluster) (nat_le 2 (width_of cluster) && nat_lt 1 width) a ≡ cell_columns (cell_of cluster (width_of cluster) a)
 same_columns width_of cluster width a s h =
@@ -87,7 +87,7 @@ module _ {W : Type 0} (width_of : List ℕ → ℕ) where
   nothing_on : (c : Grid W) → grid_on c [] ≡ c
   nothing_on c = let zero_more : c.column + 0 ≡ c.column = omega arith in λ i. record c { lines = set-get_or c.lines c.row (line_of 0 []) i; column = zero_more i }
 
-  -- one cell, and then the others
+  -- one cell, and then the remaining ones
   next_on : (c : Grid W) (cell : CellContent) (cells : List CellContent) → IsDrawn c → c.column + length (cell_columns cell) ≤ c.width
       → grid_on (grid_with c (cell_columns cell) (length (cell_columns cell))) cells ≡ grid_on c (cell ∷ cells)
   next_on c cell cells h k =
@@ -153,7 +153,7 @@ module _ {W : Type 0} (width_of : List ℕ → ℕ) where
   run_on [] c h s = subst (λ (x : Grid W). Shows c x (display_of c)) (sym (nothing_on c)) (record { same = refl; widths = refl; drawn = h })
   run_on (g ∷ gs) c h s = first_on g gs c h s (run_on gs)
 
-  -- what is left then
+  -- after the clusters that fit, the remaining ones give the same display as all of them before
   pub leads_on : (c : Grid W) (gs left : List (List ℕ)) → IsDrawn c → stand gs ≡ true → left ≡ drop (length (fitting_here c gs)) gs → LeadsOn width_of c (grid_on c (fitting_here c gs)) gs left
   leads_on c gs left h s e =
       let run = run_on gs c h s in

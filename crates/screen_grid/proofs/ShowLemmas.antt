@@ -1,4 +1,4 @@
--- What clears, sizes and scrolls of lines show.
+-- The displays of lines that are cleared, resized and scrolled.
 use Rattle.std.proofs.Common.{◌≡◌, ℕ, zero, suc, ◌+◌, ◌-◌, ◌<◌, List, [], ◌∷◌, ◌++◌, length, get_or, take, drop, set, map, replicate, refl, sym, ap, subst, ◌∙◌, arith, inl, inr, append_assoc, append-nil, length-drop}
 use Rattle.std.specs.Prelude.{All, min, max, if◌then◌else◌}
 use Rattle.std.proofs.lemmas.Bool.Decides.{leb_tells}

@@ -1,4 +1,4 @@
--- What is due after one more change, another size, and changes that are forgotten.
+-- The changes that are due after one more change, after a resize, and after changes are forgotten.
 use Rattle.std.proofs.Common.{◌≡◌, ℕ, suc, ◌+◌, ◌-◌, ◌≤◌, true, false, List, [], ◌∷◌, ◌++◌, length, drop, refl, sym, ap, ◌∙◌, arith, inl, inr, length-append, length-drop}
 use Rattle.std.specs.Prelude.{◌==◌, nat_lt, Option, Some, None, if◌then◌else◌}
 use Rattle.std.specs.Option.{option_map}
@@ -42,13 +42,13 @@ with_change : (most : ℕ) (log : Log) (change : ChangeValue) (number : ℕ) →
     → due most (kept most (logged change log)) number ≡ Some (drop (number - first_number log) log.entries ++ change ∷ [])
 with_change most log change number h z f s m =
     let all = log.entries ++ change ∷ [] in
-    let few_dropped = length all - most in
+    let dropped = length all - most in
     let later = kept most (logged change log) in
     let first = first_later most log change h in
     let long = length-append log.entries (change ∷ []) in
-    let position : few_dropped + (number - first_number later) ≡ number - first_number log = omega arith in
+    let position : dropped + (number - first_number later) ≡ number - first_number log = omega arith in
     due_here most later number z (omega arith) (omega arith) (omega arith)
-    ∙ ap (λ (cs : List ChangeValue). Some cs) (drop-drop (number - first_number later) few_dropped all ∙ ap (λ n. drop n all) position ∙ drop-append-le (number - first_number log) log.entries (change ∷ []) (omega arith))
+    ∙ ap (λ (cs : List ChangeValue). Some cs) (drop-drop (number - first_number later) dropped all ∙ ap (λ n. drop n all) position ∙ drop-append-le (number - first_number log) log.entries (change ∷ []) (omega arith))
 
 pub due_later : (most : ℕ) (log : Log) (change : ChangeValue) (number : ℕ) → length log.entries ≤ log.number → number ≤ log.number → due most (kept most (logged change log)) number ≡ due_after most log change number
 due_later most log change number h s =
@@ -111,16 +111,16 @@ counts_none s most h = ap (λ (l : Log). record { most = most; log = l }) (resiz
 due_cut : (most : ℕ) (log : Log) (before number : ℕ) → length log.entries ≤ log.number → before ≤ number → before ≤ log.number
     → due most (record log { entries = drop (before - first_number log) log.entries }) number ≡ due most log number
 due_cut most log before number h m n =
-    let few_dropped = before - first_number log in
-    let cut : Log = record log { entries = drop few_dropped log.entries } in
-    let left = length-drop few_dropped log.entries in
+    let dropped = before - first_number log in
+    let cut : Log = record log { entries = drop dropped log.entries } in
+    let left = length-drop dropped log.entries in
     let test : nat_lt number (first_number cut) ≡ nat_lt number (first_number log) = elim (leb_tells (suc number) (first_number log)) [
       | inl p ↦ (let early = p.1 in let same : first_number cut ≡ first_number log = omega arith in ap (λ k. nat_lt number k) same)
       | inr p ↦ (let late = p.1 in let still : nat_lt number (first_number cut) ≡ false = grind (arith, nat_tests) in still ∙ sym p.0)
     ] in
-    let position : few_dropped + (number - first_number cut) ≡ number - first_number log = omega arith in
+    let position : dropped + (number - first_number cut) ≡ number - first_number log = omega arith in
     due_is most cut number
-    ∙ (λ i. due_of (number == 0) (test i) (nat_lt log.number number) (nat_lt most (log.number - number)) ((drop-drop (number - first_number cut) few_dropped log.entries ∙ ap (λ k. drop k log.entries) position) i))
+    ∙ (λ i. due_of (number == 0) (test i) (nat_lt log.number number) (nat_lt most (log.number - number)) ((drop-drop (number - first_number cut) dropped log.entries ∙ ap (λ k. drop k log.entries) position) i))
     ∙ sym (due_is most log number)
 
 pub due_forgotten : (most : ℕ) (log : Log) (before number : ℕ) → length log.entries ≤ log.number → before ≤ number → due most (forgotten before log) number ≡ due most log number

@@ -12,13 +12,13 @@ use Rattle.screen_log.specs.LogSteps.{LogStep, Logged, Forgotten, Resized, AreSi
 pub record IsTail (most : ℕ) (log all : Log) : Type 0 where
   pub number : log.number ≡ all.number
   pub counted : length all.entries ≤ all.number
-  pub few_dropped : ℕ
-  pub some : few_dropped ≤ length all.entries
-  pub entries : log.entries ≡ drop few_dropped all.entries
-  pub enough : (few_dropped ≡ 0) ⊎ (most ≤ length log.entries)
+  pub dropped : ℕ
+  pub some : dropped ≤ length all.entries
+  pub entries : log.entries ≡ drop dropped all.entries
+  pub enough : (dropped ≡ 0) ⊎ (most ≤ length log.entries)
 
-tail_length : (most : ℕ) (log all : Log) → (t : IsTail most log all) → length log.entries + t.few_dropped ≡ length all.entries
-tail_length most log all t = let e = ap length t.entries in let d = length-drop t.few_dropped all.entries in let s = t.some in omega arith
+tail_length : (most : ℕ) (log all : Log) → (t : IsTail most log all) → length log.entries + t.dropped ≡ length all.entries
+tail_length most log all t = let e = ap length t.entries in let d = length-drop t.dropped all.entries in let s = t.some in omega arith
 
 -- ---- one step
 
@@ -30,14 +30,14 @@ logged_tail most log all change t =
     let long = tail_length most log all t in
     let s = t.some in
     let c = t.counted in
-    let same : log.entries ++ change ∷ [] ≡ drop t.few_dropped (all.entries ++ change ∷ []) = ap (λ (xs : List ChangeValue). xs ++ change ∷ []) t.entries ∙ sym (drop-append-le t.few_dropped all.entries (change ∷ []) s) in
+    let same : log.entries ++ change ∷ [] ≡ drop t.dropped (all.entries ++ change ∷ []) = ap (λ (xs : List ChangeValue). xs ++ change ∷ []) t.entries ∙ sym (drop-append-le t.dropped all.entries (change ∷ []) s) in
     let left = length-drop k (log.entries ++ change ∷ []) in
     record {
       number = ap (λ n. n + 1) t.number;
       counted = omega arith;
-      few_dropped = t.few_dropped + k;
+      dropped = t.dropped + k;
       some = omega arith;
-      entries = ap (drop k) same ∙ drop-drop k t.few_dropped (all.entries ++ change ∷ []);
+      entries = ap (drop k) same ∙ drop-drop k t.dropped (all.entries ++ change ∷ []);
       enough = elim (leb_tells (suc most) (length (log.entries ++ change ∷ []))) [
         | inl p ↦ inr (let more = p.1 in omega arith)
         | inr p ↦ let fits = p.1 in elim t.enough [ inl e ↦ inl (omega arith) | inr h ↦ absurd (omega arith) ]
@@ -68,27 +68,27 @@ forgotten_tail most log all number t = by_test (leb_tells (suc all.number) numbe
             let b = number - first_number log in
             let da = length-drop a all.entries in
             let db = length-drop b log.entries in
-            elim (leb_tells a t.few_dropped) [
+            elim (leb_tells a t.dropped) [
               | inl p ↦ let le = p.1 in
                   let zero_is : b ≡ 0 = omega arith in
-                  let back : a + (t.few_dropped - a) ≡ t.few_dropped = omega arith in
-                  let kept_all : drop b log.entries ≡ drop (t.few_dropped - a) (drop a all.entries) = ap (λ k. drop k log.entries) zero_is ∙ t.entries ∙ ap (λ k. drop k all.entries) (sym back) ∙ sym (drop-drop (t.few_dropped - a) a all.entries) in
+                  let back : a + (t.dropped - a) ≡ t.dropped = omega arith in
+                  let kept_all : drop b log.entries ≡ drop (t.dropped - a) (drop a all.entries) = ap (λ k. drop k log.entries) zero_is ∙ t.entries ∙ ap (λ k. drop k all.entries) (sym back) ∙ sym (drop-drop (t.dropped - a) a all.entries) in
                   record {
                     number = n;
                     counted = omega arith;
-                    few_dropped = t.few_dropped - a;
+                    dropped = t.dropped - a;
                     some = omega arith;
                     entries = kept_all;
                     enough = elim t.enough [ inl e ↦ inl (omega arith) | inr h ↦ inr (omega arith) ];
                   }
               | inr p ↦ let lt = p.1 in
-                  let more : t.few_dropped + b ≡ a = omega arith in
+                  let more : t.dropped + b ≡ a = omega arith in
                   record {
                     number = n;
                     counted = omega arith;
-                    few_dropped = 0;
+                    dropped = 0;
                     some = omega arith;
-                    entries = ap (drop b) t.entries ∙ drop-drop b t.few_dropped all.entries ∙ ap (λ k. drop k all.entries) more;
+                    entries = ap (drop b) t.entries ∙ drop-drop b t.dropped all.entries ∙ ap (λ k. drop k all.entries) more;
                     enough = inl refl;
                   }
             ]
@@ -97,13 +97,13 @@ forgotten_tail most log all number t = by_test (leb_tells (suc all.number) numbe
     by_test x = elim x [ inl p ↦ stays p.0 | inr p ↦ goes p.0 (let h = p.1 in omega arith) ]
 
 resized_lists : (most next n : ℕ) (xs ys : List ChangeValue) → 0 < most → IsTail most (record { number = n; entries = xs }) (record { number = n; entries = ys }) → IsTail next (resized_log (record { number = n; entries = xs })) (resized_log (record { number = n; entries = ys }))
-resized_lists most next n [] [] h t = record { number = refl; counted = t.counted; few_dropped = 0; some = omega arith; entries = refl; enough = inl refl }
+resized_lists most next n [] [] h t = record { number = refl; counted = t.counted; dropped = 0; some = omega arith; entries = refl; enough = inl refl }
 resized_lists most next n [] (y ∷ ys) h t =
     let long = tail_length most (record { number = n; entries = [] }) (record { number = n; entries = y ∷ ys }) t in
     elim t.enough [ inl e ↦ absurd (omega arith) | inr k ↦ absurd (omega arith) ]
 resized_lists most next n (x ∷ xs) [] h t =
     let long = tail_length most (record { number = n; entries = x ∷ xs }) (record { number = n; entries = [] }) t in absurd (omega arith)
-resized_lists most next n (x ∷ xs) (y ∷ ys) h t = record { number = refl; counted = omega arith; few_dropped = 0; some = omega arith; entries = refl; enough = inl refl }
+resized_lists most next n (x ∷ xs) (y ∷ ys) h t = record { number = refl; counted = omega arith; dropped = 0; some = omega arith; entries = refl; enough = inl refl }
 
 resized_tail : (most next : ℕ) (log all : Log) → 0 < most → IsTail most log all → IsTail next (resized_log log) (resized_log all)
 resized_tail most next log all h t =
@@ -120,9 +120,9 @@ steps_tail (Forgotten number ∷ steps) most log all h k t = steps_tail steps mo
 steps_tail (Resized next ∷ steps) most log all h k t = steps_tail steps next (resized_log log) (resized_log all) k.0 k.1 (resized_tail most next log all h t)
 
 new_tail : (most : ℕ) → IsTail most new_log new_log
-new_tail most = record { number = refl; counted = omega arith; few_dropped = 0; some = omega arith; entries = refl; enough = inl refl }
+new_tail most = record { number = refl; counted = omega arith; dropped = 0; some = omega arith; entries = refl; enough = inl refl }
 
--- ---- what is due
+-- ---- the changes that are due
 
 pub due_of : Bool → Bool → Bool → Bool → List ChangeValue → Option (List ChangeValue)
 due_of a b c d changes = if a || b || c || d then None else Some changes
@@ -155,7 +155,7 @@ due_tail most log all number t =
     let s = t.some in
     let first = first_number all in
     let later = first_number log in
-    let gap : later ≡ first + t.few_dropped = omega arith in
+    let gap : later ≡ first + t.dropped = omega arith in
     due_is most log number
     ∙ elim (leb_tells (suc number) later) [
       | inl p ↦ let lt = p.1 in
@@ -170,8 +170,8 @@ due_tail most log all number t =
           ]
       | inr p ↦ let ge = p.1 in
           let whole : nat_lt number first ≡ false = elim (leb_tells (suc number) first) [ inl q ↦ (let lt = q.1 in absurd (omega arith)) | inr q ↦ q.0 ] in
-          let position : t.few_dropped + (number - later) ≡ number - first = omega arith in
-          let same : drop (number - later) log.entries ≡ drop (number - first) all.entries = ap (drop (number - later)) t.entries ∙ drop-drop (number - later) t.few_dropped all.entries ∙ ap (λ k. drop k all.entries) position in
+          let position : t.dropped + (number - later) ≡ number - first = omega arith in
+          let same : drop (number - later) log.entries ≡ drop (number - first) all.entries = ap (drop (number - later)) t.entries ∙ drop-drop (number - later) t.dropped all.entries ∙ ap (λ k. drop k all.entries) position in
           (λ i. due_of (number == 0) ((p.0 ∙ sym whole) i) (nat_lt (n i) number) (nat_lt most (n i - number)) (same i))
     ]
     ∙ sym (due_is most all number)

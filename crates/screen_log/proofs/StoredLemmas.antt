@@ -1,4 +1,4 @@
--- Changes that are stored, of which the first ones are gone.
+-- Stored changes, of which the first ones are dropped.
 use Rattle.std.proofs.Common.{◌≡◌, ℕ, ◌+◌, ◌-◌, ◌<◌, ◌≤◌, false, List, [], ◌∷◌, ◌++◌, length, drop, map, refl, take, sym, ap, ◌∙◌, arith, length-append, length-drop}
 use Rattle.std.specs.Prelude.{◌||◌, ◌==◌, nat_lt, max, Some, None, if◌then◌else◌}
 use Rattle.std.proofs.lemmas.Bool.Decides.{nat_tests}
@@ -10,14 +10,14 @@ use Rattle.screen_change.specs.ValueOf.{value_of}
 use Rattle.screen_change.specs.declared.change.Change.{Change}
 use Rattle.screen_log.specs.Log.{Log, due, first_number, forgotten, resized_log}
 
--- what is before a position, and what follows it, where the prefix has two parts
+-- the list before a position and the list after it, where the prefix has two parts
 take_prefix : (a b c d : List Change) (n : ℕ) → length (a ++ b) ≡ n → take n (a ++ ((b ++ c) ++ d)) ≡ a ++ b
 take_prefix a b c d n e = ap (λ (rest : List Change). take n (a ++ rest)) (append_assoc b c d) ∙ ap (take n) (sym (append_assoc a b (c ++ d))) ∙ take_at (a ++ b) (c ++ d) n e
 
 drop_prefix : (a b c d : List Change) (n : ℕ) → length (a ++ b) ≡ n → drop n (a ++ ((b ++ c) ++ d)) ≡ c ++ d
 drop_prefix a b c d n e = ap (λ (rest : List Change). drop n (a ++ rest)) (append_assoc b c d) ∙ ap (drop n) (sym (append_assoc a b (c ++ d))) ∙ drop_at (a ++ b) (c ++ d) n e
 
--- a block of changes after the first ones changes place with as many others: what is done before, and then what is left after, are the whole
+-- a block of n changes is swapped with one of the other list: the first part of `prefix` and the rest of `after` are still the whole
 pub swapped_block : (n at : ℕ) (prefix after done left : List Change) → at + n ≤ length prefix → length prefix ≡ length after
     → done ≡ take n (mid_of at (length after - at) after) ++ drop n (mid_of at (length prefix - at) prefix)
     → left ≡ take n (mid_of at (length prefix - at) prefix) ++ drop n (mid_of at (length after - at) after)
@@ -91,7 +91,7 @@ due_here most log number z f n m =
     let many : nat_lt most (log.number - number) ≡ false = grind (arith, nat_tests) in
     λ i. if z i || first i || last i || many i then None else Some (drop (number - first_number log) log.entries)
 
--- where not all stored changes are gone, some are kept
+-- where not all stored changes are dropped, some are kept
 pub some_kept : (changes : List Change) (start : ℕ) → start < length changes → map value_of (drop start changes) ≡ [] → ⊥
 some_kept changes start h e =
     let none = ap length e in

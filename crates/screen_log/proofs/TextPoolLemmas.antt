@@ -1,4 +1,4 @@
--- Places of dropped changes.
+-- Positions of dropped changes in the list of stored ones.
 use Rattle.std.proofs.Common.{◌≡◌, ℕ, ◌+◌, ◌<◌, List, [], ◌∷◌, ◌++◌, length, take, drop, ap, sym, ◌∙◌, arith}
 use Rattle.std.specs.Prelude.{replicate, slice_set}
 use Rattle.std.proofs.lemmas.List.{drop-drop, drop-set-lt, replicate-append-replicate, take_more_set}
@@ -10,7 +10,7 @@ pub one_dropped : (changes : List Change) (at : ℕ) → at < length changes →
 one_dropped changes at h e =
     take_more_set changes at nothing h ∙ ap (λ (prefix : List Change). prefix ++ nothing ∷ []) e ∙ replicate-append-replicate at 1 nothing
 
--- what follows that position is as it was
+-- the changes after that position are unchanged
 pub rest_stays : (changes old : List Change) (at : ℕ) → drop at changes ≡ drop at old → drop (at + 1) (slice_set changes at nothing) ≡ drop (at + 1) old
 rest_stays changes old at e =
     drop-set-lt (at + 1) changes at nothing (omega arith) ∙ sym (drop-drop 1 at changes) ∙ ap (drop 1) e ∙ drop-drop 1 at old

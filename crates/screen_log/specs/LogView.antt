@@ -19,7 +19,7 @@ log_of a =
 -- At most as many changes are kept as may be due, each of them has a number, and at most as many slots are before them.
 -- Dropped changes hold no memory, except at most 64 KB of texts' memory, for later texts.
 pub record IsBounded (a : Inside) : Type 0 where
-  pub few_dropped : a.start + a.start ≤ length a.changes.items
+  pub half_dropped : a.start + a.start ≤ length a.changes.items
   pub kept : length a.changes.items ≤ a.start + a.most
   pub numbered : length a.changes.items ≤ a.start + a.number
   pub dropped : take a.start a.changes.items ≡ replicate a.start nothing

@@ -11,5 +11,5 @@ pooled_bytes texts = sum_by string_capacity texts
 pub record AreCounted (texts : List (String Global)) (bytes : ℕ) : Type 0 where
   pub counted : pooled_bytes texts ≡ bytes
   pub bounded : bytes ≤ 65536
-  pub few : length texts ≤ 1024
+  pub at_most : length texts ≤ 1024
   pub small : All (λ t. string_capacity t ≤ 1024) texts

@@ -35,7 +35,7 @@ visible_count at (RightHalf attributes ∷ row) = let n = visible_count (at + 1)
 
 -- ---- the cells before the blanks
 
--- what the end of some cells tells of them
+-- `end` describes how these cells end
 pub record Ends (cells : List CellContent) (end : End) : Type 0 where
   pub count : end.cells ≡ length cells
   pub within : end.kept ≤ end.cells

@@ -1,4 +1,4 @@
--- What the changes that paint rows leave where they are replayed.
+-- The display after the changes that paint rows are replayed.
 use Rattle.std.proofs.Common.{◌≡◌, ℕ, suc, ◌+◌, ◌-◌, ◌<◌, Bool, true, false, List, [], ◌∷◌, ◌++◌, length, replicate, Option, Some, None, refl, sym, ap, ◌∙◌, subst, arith, append-nil, append_assoc, length-append}
 use Rattle.std.specs.Prelude.{◌==◌, min, pos, slice_index_or, slice_set, if◌then◌else◌}
 use Rattle.std.proofs.lemmas.Bool.{false≢true}
@@ -29,7 +29,7 @@ module _ (width_of : List ℕ → ℕ) (narrow : width_of space ≡ 1) (d : Disp
   abbrev width : ℕ
   width = d.screen.width
 
-  -- the display with these rows, this place of the cursor and this pen
+  -- the display with these rows, this position of the cursor and this pen
   abbrev pub at_position : List Row → ℕ → ℕ → Attributes → Display
   at_position rows column row pen = record d { screen = record d.screen { rows = rows; column = column; row = row; pen = pen } }
 

@@ -21,7 +21,7 @@ use Rattle.screen_repaint.proofs.PaintLemmas.{take_next, cell_more}
 
 -- ---- cells that are written
 
--- a text's cells, and of the others as many as are asked for more
+-- the cells of a text, and then the first m of the rest, are the first n = length text + m cells
 each_written : (at : ℕ) (text : List ℕ) (attributes : Attributes) (w : Written) (n m : ℕ) (rest : List VisibleCell) → n ≡ length text + m
     → with_cells (with_each text attributes w) (take m (contents rest)) ≡ with_cells w (take n (contents (visible_each at text attributes ++ rest)))
 each_written at [] attributes w n m rest e = ap (λ k. with_cells w (take k (contents rest))) (let k : m ≡ n = omega (arith, e) in k)
@@ -31,12 +31,12 @@ each_written at (byte ∷ text) attributes w n m rest e =
 
 pub stretch_written : (at : ℕ) (text : List ℕ) (attributes : Attributes) (old new : Written) (most : ℕ) (left rest : List VisibleCell) → left ≡ visible_each at text attributes ++ rest → 0 < length text → length text ≤ most
     → new ≡ with_each text attributes old → WritesOn most old left (length text) new rest
-stretch_written at text attributes old new most left rest e some few is = record {
+stretch_written at text attributes old new most left rest e some bound is = record {
   same =
       ap (λ (w : Written). with_cells w (take (most - length text) (contents rest))) is
-      ∙ each_written at text attributes old most (most - length text) rest (let k : most ≡ length text + (most - length text) = omega (arith, few) in k)
+      ∙ each_written at text attributes old most (most - length text) rest (let k : most ≡ length text + (most - length text) = omega (arith, bound) in k)
       ∙ ap (λ (vs : List VisibleCell). with_cells old (take most (contents vs))) (sym e);
-  within = few;
+  within = bound;
   none = λ z. absurd (omega (arith, z, some));
 }
 
@@ -144,14 +144,14 @@ reversed_ends (byte ∷ text) attributes end =
     let remaining : length text - n + n + 1 ≡ length (byte ∷ text) - m = omega arith in
     one_other before (plain_cell byte attributes) e ∙ rest_over n (length text - n) attributes end ∙ (λ i. with_blanks (none i) attributes (with_rest (remaining i) end)))
 
--- a text's cells are others, and then blanks
+-- the cells of a text are those before the blanks at its end, and then these blanks
 plain_ends : (text : List ℕ) (attributes : Attributes) (end : End) → with_plain text attributes end ≡ with_blanks (blanks_at_end text attributes) attributes (with_rest (length text - blanks_at_end text attributes) end)
 plain_ends text attributes end =
     ap (λ t. with_plain t attributes end) (sym (reverse-reverse text))
     ∙ reversed_ends (reverse text) attributes end
     ∙ ap (λ k. with_blanks (blanks_at_end text attributes) attributes (with_rest (k - blanks_at_end text attributes) end)) (length-reverse text)
 
--- others, and then as many blanks as are at a text's end, are its cells
+-- the cells before the blanks at a text's end, and then these blanks, are the cells of the text
 pub text_pushed : (text : List ℕ) (attributes : Attributes) (old new : End) (blanks : ℕ) → blanks ≡ blanks_at_end text attributes → new ≡ with_blanks blanks attributes (with_rest (length text - blanks) old) → new ≡ with_plain text attributes old
 text_pushed text attributes old new blanks n e = e ∙ ap (λ k. with_blanks k attributes (with_rest (length text - k) old)) n ∙ sym (plain_ends text attributes old)
 
@@ -166,7 +166,7 @@ and_false : (b : Bool) → (b && false) ≡ false
 and_false true = refl
 and_false false = refl
 
--- a space is a blank where the attributes are plain but for the background
+-- a byte is a blank if it is a space, and the attributes are plain except for the background
 blank_byte : (attributes : Attributes) (byte : ℕ) (plain : Bool) → same_attributes attributes (blank_of attributes.background) ≡ plain → blank_at attributes byte ≡ ((byte == 32) && plain)
 unfolding is_blank_of
 blank_byte attributes byte plain e = λ i. and_true (byte == 32) i && e i

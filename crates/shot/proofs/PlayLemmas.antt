@@ -18,13 +18,13 @@ use Rattle.terminal_table.proofs.JoinLemmas.{after_joins}
 after_none : (view : View) → after program_width view [] ≡ view
 after_none view = ap (λ stream. record view { stream = stream }) (append-nil view.stream)
 
--- a terminal stands where what is left leads to an end
+-- a terminal stands at a view from which the events left lead to a final view
 pub record Led {W : Type 0} (now : Terminal W) (left : List recorded.Event) («end» : View) : Type 0 where
   pub view : View
   pub stands : StandsAt now view
   pub leads : after program_width view (steps_of left) ≡ «end»
 
--- what is left leads from where a terminal stands to where the whole leads from where it stood
+-- from a view at which `before` stands, `whole` leads to a view; `now` stands at one from which `left` leads to that view
 abbrev pub LeadsOn : {W : Type 0} → Terminal W → Terminal W → List recorded.Event → List recorded.Event → Type 0
 LeadsOn before now left whole = (view : View) → StandsAt before view → Led now left (after program_width view (steps_of whole))
 
@@ -47,12 +47,12 @@ led_all before now whole h view st =
     let led = h view st in
     subst (StandsAt now) (sym (after_none led.view) ∙ led.leads) led.stands
 
--- how many pass a test of what a list is mapped to
+-- the prefix of items whose images pass a test is as long as the prefix of images that pass it
 pub prefix_mapped : {A B : Type 0} (f : A → B) (test : B → Bool) (xs : List A) → prefix_len (λ x. test (f x)) xs ≡ prefix_len test (map f xs)
 prefix_mapped f test [] = refl
 prefix_mapped f test (x ∷ xs) = ap (λ n. cond (test (f x)) (1 + n) 0) (prefix_mapped f test xs)
 
--- the events up to a time, and then a look
+-- after the events up to a time, and a look, the terminal stands at the view of that time
 pub played_until : {W : Type 0} (before then now : Terminal W) (events prefix : List Event) (time count : ℕ) → prefix ≡ take count events → count ≡ prefix_len (is_by time) (map event_of events)
     → ((view : View) → StandsAt before view → StandsAt then (after program_width view (steps_of (map event_of prefix))))
     → GoesBy (λ w. program_width) then now (Look ∷ [])

@@ -52,7 +52,7 @@ writing_next format view events step count t u rest next time later left old out
       ∙ w.whole remaining;
 }
 
--- where the screens at those times are written, another one is the last
+-- after the screens at those times, the screen at the last time completes the pictures
 pub written_last : {W : Type 0} (format : Format) (view : View) (events : List recorded.Event) (step count : ℕ) (t : Terminal W) (rest : List recorded.Event) (time last : ℕ) (old out new : Option (List ℕ))
     → IsWriting format view events step count t rest time 0 old out
     → ((v : View) → StandsAt t v → Appends out new (picture format (view_at v rest last).state.screen))

@@ -1,4 +1,4 @@
--- A terminal that forgets what nobody reads answers as one that keeps all.
+-- A terminal that forgets changes and drops replies that nobody reads answers as one that keeps all.
 use Rattle.std.proofs.Common.{◌≡◌, ℕ, ◌<◌, ◌≤◌, ◌^◌, ◌⊎◌, inl, inr, false, List, [], ◌∷◌, ◌++◌, length, map, fold, sym, ap, subst, ◌∙◌, arith, Option}
 use Rattle.std.specs.Prelude.{◌==◌, if◌then◌else◌}
 use Rattle.std.specs.Io.KnownBytes.{Appends}
@@ -30,14 +30,14 @@ use Rattle.terminal_viewers.proofs.ChunkLemmas.{standings_join, standings_cut}
 
 -- ---- standings
 
--- one chunk after another is both
+-- feeding one chunk after another is feeding both joined
 pub chunks_join : (f : List ℕ → ℕ) (s : Standing) (x y : List ℕ) → standing_after f (standing_after f s (Piece x ∷ [])) (Piece y ∷ []) ≡ standing_after f s (Piece (x ++ y) ∷ [])
 chunks_join f s x y = sym (standings_join f s (Piece x ∷ []) (Piece y ∷ [])) ∙ standings_cut actions_join f s x y []
 
 pub number_rises : (f : List ℕ → ℕ) (s : Standing) (h : History) → s.log.log.number ≤ (standing_after f s h).log.log.number
 number_rises f s h = fold_number (logged f s.view h) s.log
 
--- A viewer at number 0, to which nothing is due, gets the update of one at the number from which one answers as the other.
+-- a viewer at number 0, to which nothing is due, or at the number `from`, has equal updates from both standings
 pub update_alike : (from number : ℕ) (kept whole : Standing) → (number ≡ 0) ⊎ (from ≡ number) → AnswersAs from kept whole → update_at kept number ≡ update_at whole number
 update_alike from number kept whole (inl e) h =
     subst (λ n. update_at kept n ≡ update_at whole n) (sym e)
@@ -50,19 +50,19 @@ module _ {W : Type 0} (width_of : W → List ℕ → ℕ) (w : W) where
   abbrev f : List ℕ → ℕ
   f = width_of w
 
-  -- where a terminal that goes on stands
+  -- the standing of a terminal after a history
   pub goes_at : (t u : Terminal W) (s : Standing) (h : History) → t.surface.grid.widths ≡ w → IsAt t s → GoesBy width_of t u h → IsAt u (standing_after f s h)
   goes_at t u s h e at g = record {
     stands = subst (λ x. StandsAt u (after (width_of x) s.view h)) e (g.stands s.view at.stands);
     log = g.log s.view at.stands ∙ (λ i. log_after (width_of (e i)) s.view (at.log i) h);
   }
 
-  -- what a number there is like, wherever it stands
+  -- a property of the number after a history, true at each view of the terminal, is true at its standing
   numbers_at : (P : ℕ → Type 0) (t : Terminal W) (s : Standing) (h : History) → t.surface.grid.widths ≡ w → IsAt t s → ((view : View) → StandsAt t view → P (final_log width_of t view h).log.number)
       → P (standing_after f s h).log.log.number
   numbers_at P t s h e at n = subst (λ (x : Sized). P x.log.number) (λ i. log_after (width_of (e i)) s.view (at.log i) h) (n s.view at.stands)
 
-  -- where one stands that has forgotten changes, and dropped its replies
+  -- the standing of a terminal that has forgotten changes, and dropped its replies
   pub lightened_at : (t v : Terminal W) (s : Standing) (number : ℕ) → t.surface.grid.widths ≡ w → IsAt t s → Lightens width_of t v number → IsAt v (lightened f number s)
   lightened_at t v s number e at l =
       let there = goes_at t l.forgotten s (Forget number ∷ []) e at l.goes in
@@ -71,7 +71,7 @@ module _ {W : Type 0} (width_of : W → List ℕ → ℕ) (w : W) where
         log = there.log;
       })
 
-  -- what a viewer is sent after a look, by what the terminal shows then
+  -- the update after a look is that of the standing after the look
   update_there : (t u : Terminal W) (s : Standing) (number : ℕ) → t.surface.grid.widths ≡ w → IsAt t s → GoesBy width_of t u (Look ∷ []) → update_of (state_in u).screen u.surface.log number ≡ update_at (looked f s) number
   update_there t u s number e at g = let there = goes_at t u s (Look ∷ []) e at g in λ i. update_of (there.stands.state i).screen (there.log i) number
 
@@ -94,7 +94,7 @@ module _ {W : Type 0} (width_of : W → List ℕ → ℕ) (w : W) where
   pub answers_first : (number : ℕ) (t : Terminal W) (s : Standing) → IsAt t s → IsCounted s → AnswersAt number t s
   answers_first number t s at counted = record { kept = s; at = at; answers = answers_itself number s counted }
 
-  -- bytes are fed, and looks taken
+  -- it still answers so after bytes are fed and looks taken
   pub answers_on : (number : ℕ) (t u : Terminal W) (whole : Standing) (h : History) → AreFed h → t.surface.grid.widths ≡ w → AnswersAt number t whole → GoesBy width_of t u h → AnswersAt number u (standing_after f whole h)
   answers_on number t u whole h fed e a g = record {
     kept = standing_after f a.kept h;
@@ -153,7 +153,7 @@ module _ {W : Type 0} (width_of : W → List ℕ → ℕ) (w : W) where
       feed_alike f number a.kept whole bytes u.surface.is_failed a.answers
       (subst (λ (T : Type 0). T) (λ i. FeedTakesMemory (width_of (e i)) (record { view = a.kept.view; log = a.at.log i }) bytes u.surface.is_failed) (n a.kept.view a.at.stands))
 
--- after a look nothing is held, and one after no bytes logs nothing
+-- where no run is held, an empty chunk and a look leave the log's number as it is
 pub quiet_look : (f : List ℕ → ℕ) (s : Standing) → s.view.held ≡ [] → (standing_after f s (Piece [] ∷ Look ∷ [])).log.log.number ≡ s.log.log.number
 quiet_look f s none =
     ap (λ (ds : List Dispatch). (fold step_of_kept s.log (events_logged f s.view (map Act (actions_of ds) ++ (Looked ∷ [])))).log.number) (none_newly s.view.stream)

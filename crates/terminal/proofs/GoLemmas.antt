@@ -35,7 +35,7 @@ actions_join stream x y = ap actions_of (newly_join stream x y) ∙ flat_map-app
 
 -- ---- events that are those of a history
 
--- the events do to a view what the history does
+-- the events lead a view to the state and run of the history, and log the same steps
 pub record AreOf (f : List ℕ → ℕ) (view : View) (events : List Event) (history : History) : Type 0 where
   pub state : (fold (event_done f) view events).state ≡ (after f view history).state
   pub run : (fold (event_done f) view events).held ≡ (after f view history).held
@@ -66,7 +66,7 @@ module _ {W : Type 0} (width_of : W → List ℕ → ℕ) where
   abbrev of : Terminal W → List ℕ → ℕ
   of t = width_of t.surface.grid.widths
 
-  -- what a terminal's parts show, at a view
+  -- at a view, the parts of a terminal have the view's state and run
   same_view : (s : TerminalState W) (u : Held) (view : View) → StandsAt (with_parts s u) view → view_of s ≡ with_stream [] view
   same_view s u view st = λ i. record { state = st.state i; stream = []; held = st.run i }
 
@@ -107,7 +107,7 @@ module _ {W : Type 0} (width_of : W → List ℕ → ℕ) where
       logs : (view : View) → StandsAt (with_parts s u) view → events_logged f (view_of s) (events view) ≡ events_logged f view (events view)
       logs view st = ap (λ v. events_logged f v (events view)) (same_view s u view st) ∙ logged_with f view [] (events view)
 
-  -- what is refused a number
+  -- where the events lead past the last number, the history needs a number
   pub past : (s : TerminalState W) (u : Held) (history : History) (events : View → List Event)
       → ((view : View) → AreOf (width_of s.surface.grid.widths) view (events view) history)
       → ((view : View) → u ≡ held_of view.stream → 2 ^ 64 ≤ (steps.final_log width_of s (events view)).log.number)
@@ -137,12 +137,12 @@ module _ {W : Type 0} (width_of : W → List ℕ → ℕ) where
       by_test true = omega arith
       by_test false = next
 
-  -- ---- a piece
+  -- ---- a chunk
 
   pub events_are : (stream bytes : List ℕ) → AreEvents (item_events (items stream bytes))
   events_are stream bytes = call_events is_the_cut newly_join pieces_spell stream bytes
 
-  -- what is unfinished after it
+  -- the unfinished bytes after it
   piece_ends : (u w : Held) (bytes : List ℕ) → ((stream : List ℕ) → u ≡ held_of stream → w ≡ held_of (stream ++ bytes)) → (view : View) → u ≡ held_of view.stream → w ≡ held_of (view.stream ++ table.pieces (Piece bytes ∷ []))
   piece_ends u w bytes ends view e = ends view.stream e ∙ ap (λ xs. held_of (view.stream ++ xs)) (sym (nothing_after bytes))
 
@@ -169,7 +169,7 @@ module _ {W : Type 0} (width_of : W → List ℕ → ℕ) where
       (past s u (Piece bytes ∷ []) (λ view. item_events (items view.stream bytes)) (pieced bytes (width_of s.surface.grid.widths))
       (λ view e. numbers view.stream e ready (events_are view.stream bytes)))
 
-  -- what is refused memory for a view, whatever its stream
+  -- the memory that an event takes doesn't depend on the view's stream
   taken_with : (f : List ℕ → ℕ) (stream : List ℕ) (view : View) (log : Sized) (event : Event) (failed : Bool) → TakesMemory f (with_stream stream view) log event failed → TakesMemory f view log event failed
   taken_with f stream view log (Act action) failed h = h
   taken_with f stream view log Looked failed h = h
@@ -241,7 +241,7 @@ module _ {W : Type 0} (width_of : W → List ℕ → ℕ) where
     sound = h.sound;
   }
 
-  -- one piece is both
+  -- feeding two chunks leads where feeding their bytes joined does
   pub joined : (x z : Terminal W) (a b : List ℕ) → GoesBy width_of x z (Piece a ∷ Piece b ∷ []) → GoesBy width_of x z (Piece (a ++ b) ∷ [])
   joined x z a b g = record {
     stands = λ view st. subst (StandsAt z) (cut_after actions_join (of x) view a b []) (g.stands view st);
@@ -250,7 +250,7 @@ module _ {W : Type 0} (width_of : W → List ℕ → ℕ) where
     sound = g.sound;
   }
 
-  -- ---- a piece of no bytes
+  -- ---- an empty chunk
 
   no_events : (stream : List ℕ) → table.events stream (Piece [] ∷ []) ≡ []
   no_events stream = ap (λ ds. map Act (actions_of ds) ++ []) (none_newly stream)

@@ -21,7 +21,7 @@ rest_has_none : {G : Type 0} (Join : G → G → Type 0) (group : G) (groups : L
 rest_has_none Join group [] p = tt
 rest_has_none Join group (next ∷ groups) p = p.1
 
--- nor can any where another group is the first, if it can be joined only with what that one can be joined with
+-- nor can any where the first group is replaced by one that joins only groups that the first one joins
 other_first : {G : Type 0} (Join : G → G → Type 0) (one other : G) (groups : List G) → ((next : G) → Join other next → Join one next) → NoNeighborsJoin Join (one ∷ groups) → NoNeighborsJoin Join (other ∷ groups)
 other_first Join one other [] f p = tt
 other_first Join one other (next ∷ groups) f p = ((λ j. p.0 (f next j)), p.1)
@@ -61,7 +61,7 @@ pub runs_are_cut : (cells : List CellContent) → AreRunsOf cells (cell_runs cel
 runs_are_cut [] = record { whole = refl; filled = tt; longest = tt }
 runs_are_cut (cell ∷ cells) = one_more_run cell cells (cell_runs cells) (runs_are_cut cells)
 
--- ---- no other runs are one
+-- ---- no other runs are a cut
 
 -- a cell of a text and attributes, and the runs of texts and attributes
 abbrev cell_of : List ℕ × Attributes → CellContent
@@ -150,7 +150,7 @@ pub stretches_are_cut : (cells : List PlacedCell) → AreStretchesOf cells (stre
 stretches_are_cut [] = record { whole = refl; filled = tt; longest = tt }
 stretches_are_cut (c ∷ cells) = one_more_stretch c cells (stretches cells) (stretches_are_cut cells)
 
--- ---- no other stretches are one
+-- ---- no other stretches are a cut
 
 abbrev stretch_of : ℕ → ℕ → CellContent → List CellContent → Stretch
 stretch_of row column first remaining = record { row = row; column = column; first = first; remaining = remaining }

@@ -1,4 +1,4 @@
--- What histories make of terminals.
+-- Histories of terminals: the states and logs to which they lead.
 use Rattle.std.proofs.Common.{◌≡◌, ℕ, List, [], ◌∷◌, ◌++◌, length, fold, inl, inr, sym, ap, ◌∙◌}
 use Rattle.std.specs.List.{AllByRecursion}
 use Rattle.std.specs.Prelude.{◌==◌, ◌⊎◌, if◌then◌else◌}
@@ -35,7 +35,7 @@ module _ {W : Type 0} (width_of : W → List ℕ → ℕ) where
     log = g.log view st ∙ sym (h.log view st);
   }
 
-  -- a look where no run is held
+  -- a look where no run is held changes nothing
   pub look_again : (before now : Terminal W) (view : View) → StandsAt before view → before.run ≡ [] → GoesBy width_of before now (Look ∷ []) → IsAlike now before
   look_again before now view st none g =
       let there = g.stands view st in
@@ -47,7 +47,7 @@ module _ {W : Type 0} (width_of : W → List ℕ → ℕ) where
         log = g.log view st ∙ ap (λ (text : List ℕ). fold step_of_kept before.surface.log ((if length text == 0 then [] else Logged (run_change text) ∷ []) ++ [])) held;
       }
 
-  -- an idle terminal stands at idle views
+  -- a view at which an idle terminal stands is idle
   pub idle_view : (t : Terminal W) (view : View) → IsIdle t → StandsAt t view → alone.IsIdle view
   idle_view t view idle st = record { run = sym st.run ∙ idle.run; stream = sym st.unfinished ∙ idle.unfinished }
 

@@ -1,4 +1,4 @@
--- What takes memory of a terminal takes memory of one that answers alike.
+-- A call that takes memory of a terminal takes memory of one that answers alike.
 use Rattle.std.proofs.Common.{◌≡◌, ◌⊎◌, inl, inr, ℕ, ◌+◌, ◌<◌, ◌^◌, Bool, true, false, List, [], ◌∷◌, ◌++◌, length, map, fold, refl, sym, ap, subst, ◌∙◌}
 use Rattle.std.specs.Prelude.{◌==◌, Option, Some, None, if◌then◌else◌}
 use Rattle.std.proofs.lemmas.List.Sums.{fold-append}
@@ -24,7 +24,7 @@ use Rattle.terminal_viewers.proofs.ShowLemmas.{action_changes, run_changes}
 same_as : (a b : View) → AreAlike a b → a ≡ with_replies a.state.replies b
 same_as a b h = λ i. record { state = record { screen = h.screen i; saved = h.saved i; replies = a.state.replies }; stream = h.stream i; held = h.held i }
 
--- changes lead from one number to one number
+-- after the same changes, logs whose numbers were equal have equal numbers
 steps_number : (steps : List LogStep) → AreChanges steps → (l m : Sized) → l.log.number ≡ m.log.number → (fold step_of_kept l steps).log.number ≡ (fold step_of_kept m steps).log.number
 steps_number [] changes l m e = e
 steps_number (Logged change ∷ steps) changes l m e = steps_number steps changes (step_of_kept l (Logged change)) (step_of_kept m (Logged change)) (ap (λ n. n + 1) e)

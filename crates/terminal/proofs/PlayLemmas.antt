@@ -17,7 +17,7 @@ use Rattle.terminal_table.specs.Logged.{logged, log_after, log_of}
 use Rattle.terminal_table.specs.Meaning.{new_view, after, meaning}
 use Rattle.terminal_table.proofs.JoinLemmas.{after_joins}
 
--- of all steps some were played on a new terminal, and others are left
+-- of the steps `all` those before `left` were played on a new terminal
 pub record IsPlayed {W : Type 0} (width_of : W → List ℕ → ℕ) (widths : W) (width height : ℕ) (all left : History) (t : Terminal W) : Type 0 where
   pub done : History
   pub whole : all ≡ done ++ left

@@ -1,4 +1,4 @@
--- A writable list and what is read of its bytes print the same.
+-- A writable list and the list that is read from its bytes print equal texts.
 use Rattle.std.proofs.Common.{◌≡◌, ℕ, Bool, true, false, Option, Some, None, List, [], ◌∷◌, ◌++◌, map, refl, ap, ◌∙◌, append-nil}
 use Rattle.std.specs.Prelude.{encode_utf8, encode_utf8_all}
 use Rattle.std.specs.Str.{chars}

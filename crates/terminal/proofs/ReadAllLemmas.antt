@@ -1,4 +1,4 @@
--- An input that is read and fed in chunks, to a terminal that forgets what nobody reads.
+-- An input that is read and fed in chunks, to a terminal that forgets its changes and drops its replies.
 use Rattle.std.proofs.Common.{◌≡◌, ℕ, ◌^◌, ◌<◌, ◌≤◌, inl, inr, false, List, [], ◌∷◌, ◌++◌, length, refl, sym, ap, subst, ◌∙◌, arith, Option, Some, None, append_assoc, append-nil}
 use Rattle.std.specs.Prelude.{IfSome}
 use Rattle.std.specs.Io.KnownBytes.{Consumes, IsAtEnd}
@@ -32,7 +32,7 @@ module _ {W : Type 0} (width_of : W → List ℕ → ℕ) where
     widths = refl;
   }
 
-  -- bytes are fed, and looks taken
+  -- it answers as one that keeps all, from its new number on, after bytes are fed and looks taken
   goes_on : (w : W) (t u : Terminal W) (whole : Standing) (h : History) → AreFed h → t.surface.grid.widths ≡ w → AnswersNow t whole → GoesBy width_of t u h → AnswersNow u (standing_after (width_of w) whole h)
   goes_on w t u whole h fed e a g =
       answers_later width_of w whole.log.log.number (standing_after (width_of w) whole h).log.log.number u (standing_after (width_of w) whole h) (number_rises (width_of w) whole h)
@@ -119,7 +119,7 @@ module _ {W : Type 0} (width_of : W → List ℕ → ℕ) where
   -- ---- a new terminal that is fed all of an input, and settles
 
   module _ (w : W) (width height : ℕ) (new : Terminal W) (at : IsAt new (new_standing width height)) (e : new.surface.grid.widths ≡ w) where
-    -- after the look at the end, with the changes forgotten, it shows what one that keeps all does
+    -- after the look at the end, with its changes forgotten, the terminal shows the screen to which the input leads
     shows : (input : List ℕ) (fed looked now : Terminal W) (number : ℕ) → IsFed width_of input new fed → GoesBy width_of fed looked (Look ∷ []) → GoesBy width_of looked now (Forget number ∷ [])
         → (state_in now).screen ≡ (meaning (width_of w) width height (Piece input ∷ Look ∷ [])).state.screen
     shows input fed looked now number h g forget =
@@ -134,7 +134,7 @@ module _ {W : Type 0} (width_of : W → List ℕ → ℕ) where
     shows_input None fed looked now number h g forget = tt
     shows_input (Some x) fed looked now number h g forget = shows x fed looked now number h g forget
 
-    -- ---- what refused a number
+    -- ---- the cause of a refused number
 
     past : (input : List ℕ) → 2 ^ 64 ≤ (standing_after (of new) (standing_after (of new) (new_standing width height) (Piece input ∷ [])) (Look ∷ [])).log.log.number
         → 2 ^ 64 ≤ (log_of (width_of w) width height (Piece input ∷ Look ∷ [])).log.number
@@ -155,7 +155,7 @@ module _ {W : Type 0} (width_of : W → List ℕ → ℕ) where
         let whole = standing_after (of new) (new_standing width height) (Piece x ∷ []) in
         past x (needs_there width_of new.surface.grid.widths whole.log.log.number fed whole (Look ∷ []) tt h.widths (h.answers (new_standing width height) at (omega arith)) n)
 
-    -- ---- what refused memory
+    -- ---- the cause of refused memory
 
     pub refused_new : (history_of : List ℕ → History) (input left : Option (List ℕ)) → ReadingIsRefusedMemory width_of history_of new input left
         → IfSome input (λ x. IsRefusedMemory (width_of w) (new_standing width height) history_of x left)
@@ -163,7 +163,7 @@ module _ {W : Type 0} (width_of : W → List ℕ → ℕ) where
     refused_new history_of (Some x) left r =
         subst (λ v. IsRefusedMemory (width_of v) (new_standing width height) history_of x left) e (r (new_standing width height) at (omega arith))
 
-    -- all was fed, and there are numbers for the look
+    -- memory may be refused where all of the input was fed and there are numbers for the look
     pub fits_look : (input left : Option (List ℕ)) (fed : Terminal W) → Feeds width_of input new fed → IfSome input (λ x. left ≡ Some []) → HasNumbers width_of fed (Look ∷ [])
         → IfSome input (λ x. IsRefusedMemory (width_of w) (new_standing width height) one_look x left)
     fits_look None left fed h all n = tt

@@ -1,4 +1,4 @@
--- The updates of an input, where it is known.
+-- The updates of an input, where its bytes are known.
 use Rattle.std.proofs.Common.{◌≡◌, ℕ, ◌+◌, ◌<◌, ◌≤◌, ◌^◌, false, List, [], ◌∷◌, length, refl, sym, ap, subst, ◌∙◌, arith, Option, Some, None}
 use Rattle.std.specs.Prelude.{IfSome}
 use Rattle.std.specs.Io.KnownBytes.{Appends, Consumes, IsAtEnd, Keeps}
@@ -12,7 +12,7 @@ use Rattle.terminal.proofs.UpdateLemmas.{IsSending, sending_chunks, sending_firs
 use Rattle.terminal_table.specs.History.{Piece, Look}
 use Rattle.terminal_viewers.specs.Updates.{Standing, new_standing}
 
--- of a known input some bytes were read, and their updates written, wherever the terminal stood
+-- of a known input some bytes were read, and their updates written, whatever the terminal's standing
 abbrev pub SendsOn : {W : Type 0} → (W → List ℕ → ℕ) → ℕ → Terminal W → Option (List ℕ) → Option (List ℕ) → Option (List ℕ) → Option (List ℕ) → Terminal W → ℕ → ℕ → Type 0
 SendsOn width_of every before None rest old now t number left = Unit {0}
 SendsOn width_of every before (Some input) None old now t number left = ⊥
@@ -33,7 +33,7 @@ module _ {W : Type 0} (width_of : W → List ℕ → ℕ) where
     on_more (Some input) (Some rest) (Some next) bytes u less s c g count some = λ start at counted.
         sending_more width_of before.surface.grid.widths every start input rest old now t number left (s start at counted) next bytes u less c same g count some
 
-    -- what no viewer is sent is forgotten within a chunk
+    -- the changes that the viewer doesn't need are forgotten within a chunk
     pub on_lighter : (input rest : Option (List ℕ)) (v : Terminal W) (later : ℕ) → SendsOn width_of every before input rest old now t number left → later ≡ due_from t number → Lightens width_of t v later
         → SendsOn width_of every before input rest old now v number left
     on_lighter None rest v later s e l = tt

@@ -1,4 +1,4 @@
--- What a terminal keeps so that each of its changes can be sent.
+-- A terminal all of whose changes have an encoding is still one after any history of sizes less than 2^32.
 use Rattle.std.proofs.Common.{◌≡◌, ℕ, ◌<◌, ◌^◌, Bool, true, false, List, [], ◌∷◌, ◌++◌, length, take, map, fold, replicate, refl, sym, ap, subst, ◌∙◌, arith, length-take, length-append}
 use Rattle.std.specs.Prelude.{⊤, ◌-◌, None}
 use Rattle.std.proofs.lemmas.List.{length-replicate}
@@ -112,14 +112,14 @@ module _ {W : Type 0} (width_of : W → List ℕ → ℕ) where
   abbrev of : Terminal W → List ℕ → ℕ
   of t = width_of t.surface.grid.widths
 
-  -- a terminal whose changes can be sent stands at such views
+  -- where a terminal's changes have encodings, so have the parts of a view at which it stands
   view_spelled : (t : Terminal W) (view : View) → StandsAt t view → IsSpelled t → IsSpelledView view
   view_spelled t view st p = subst IsSpelledView (λ i. record { state = st.state i; stream = view.stream; held = st.run i }) (record {
     state = record { screen = p.surface.spelled; saved = p.saved };
     held = p.run;
   })
 
-  -- the screen of a terminal at a view, and what is known of it
+  -- a terminal that stands at a view shows the view's screen
   at_view : (t : Terminal W) (view : View) → StandsAt t view → (shown_by t.surface).screen ≡ view.state.screen
   at_view t view st = ap (λ s. s.screen) st.state
 
@@ -169,7 +169,7 @@ module _ {W : Type 0} (width_of : W → List ℕ → ℕ) where
         run = subst IsSpelledText (sym st.run) first.held;
       }
 
-  -- parts that have gone on
+  -- for a terminal by its parts: its changes still have encodings after a history
   pub parts_spelled : (s r : TerminalState W) (u w : Held) (history : History) (events : List Event) → IsReached u → IsReady s → AreSizes history → AreSmall history → IsSpelled (with_parts s u)
       → GoesBy width_of (with_parts s u) (with_parts r w) history → Had width_of s r events → IsSpelled (with_parts r w)
   parts_spelled s r u w history events reached ready sizes small p g had =

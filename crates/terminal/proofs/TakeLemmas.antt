@@ -18,7 +18,7 @@ module _ {W : Type 0} (width_of : W → List ℕ → ℕ) where
   abbrev of : Terminal W → List ℕ → ℕ
   of t = width_of t.surface.grid.widths
 
-  -- where it stands without the replies that were taken
+  -- a view with the terminal's own state, without the replies that were taken
   abbrev own : Terminal W → View → View
   own t v = record v { state = state_in t }
 

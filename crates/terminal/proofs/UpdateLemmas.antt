@@ -28,7 +28,7 @@ appends_both (Some l) None c x y h k = absurd h
 appends_both (Some l) (Some m) None x y h k = absurd k
 appends_both (Some l) (Some m) (Some n) x y h k = k ∙ ap (λ s. s ++ y) h ∙ append_assoc l x y
 
--- the first of some bytes are the first of these with others after
+-- bytes `x` and then a prefix of `y` are a prefix of `x`, `y` and `z` joined
 pub prefix_after : (a b c : Option (List ℕ)) (x y z : List ℕ) → Appends a b x → AppendsPrefix b c y → AppendsPrefix a c (x ++ (y ++ z))
 prefix_after a b c x y z h k = record {
   written = x ++ k.written;
@@ -42,7 +42,7 @@ prefix_so_far a b x z h = record { written = x; remaining = z; whole = refl; app
 
 -- ---- the first chunk
 
--- the first chunk of an input goes on from what has begun
+-- the first chunk of an input begins with `begun`
 record First (every : ℕ) (begun input : List ℕ) : Type 0 where
   more : List ℕ
   remaining : List (List ℕ)
@@ -65,7 +65,7 @@ first_chunk every begun (byte ∷ input) = by_test (length begun + 1 == every) r
           ∙ later.are ∙ ap (λ (l : List ℕ). l ∷ later.remaining) (append_assoc begun (byte ∷ []) later.more);
     }
 
--- so it does from bytes after it that fit in the chunk
+-- where `begun` and `bytes` fit in a chunk, the first chunk begins with both
 record Holds (every : ℕ) (begun bytes next : List ℕ) : Type 0 where
   more : List ℕ
   remaining : List (List ℕ)
@@ -101,9 +101,9 @@ module _ {W : Type 0} (width_of : W → List ℕ → ℕ) (w : W) where
 
   -- ---- an input that is being read
 
-  -- Of an input some bytes were read, in chunks that are done and one that has begun; an update was written after each that is done. `last` is where a
-  -- terminal that keeps all stood at the last look. This one answers as that one does with the chunk that has begun, from the viewer's number on; before
-  -- the first update, for which nothing is due, from any number.
+  -- Some bytes of an input were read: the chunks `done`, with an update after each, and `begun`, the start of the next one. `last` is the standing of
+  -- a terminal that keeps all changes, at the last look. This terminal answers as that one does after `begun`, from the viewer's number on; before
+  -- the first update, where the viewer's number is 0 and nothing is due, from some number `from`.
   pub record IsSending (every : ℕ) (start : Standing) (input rest : List ℕ) (old now : Option (List ℕ)) (t : Terminal W) (number left : ℕ) : Type 0 where
     pub read : List ℕ
     pub done : List (List ℕ)
@@ -154,11 +154,11 @@ module _ {W : Type 0} (width_of : W → List ℕ → ℕ) (w : W) where
   }
 
   module _ (every : ℕ) (start : Standing) (input rest : List ℕ) (old now : Option (List ℕ)) (t : Terminal W) (number left : ℕ) (s : IsSending every start input rest old now t number left) where
-    -- the updates, where more follows what was read
+    -- the updates of an input that goes on with `more` after the bytes read
     all_is : (more : List ℕ) → updates_from f every start (s.read ++ more) ≡ s.written ++ updates_after f s.last number (in_chunks every s.begun more)
     all_is more = ap (updates_after f start 0) (s.chunks more) ∙ s.leads (in_chunks every s.begun more)
 
-    -- with the chunk that has begun, and with others bytes in its place
+    -- the standing after the chunk that has begun, and after another chunk instead
     here : Standing
     here = standing_after f s.last (Piece s.begun ∷ [])
 
@@ -204,7 +204,7 @@ module _ {W : Type 0} (width_of : W → List ℕ → ℕ) (w : W) where
           answers = fed_on bytes u same g;
         }
 
-    -- ---- what is forgotten within a chunk
+    -- ---- changes that are forgotten within a chunk
 
     forgotten_from : (v : Terminal W) (later : ℕ) → s.from ≤ later → later ≤ (standing_after f s.last (Piece s.begun ∷ [])).log.log.number → (number ≡ 0) ⊎ (later ≡ number) → t.surface.grid.widths ≡ w → Lightens width_of t v later
         → IsSending every start input rest old now v number left
@@ -226,7 +226,7 @@ module _ {W : Type 0} (width_of : W → List ℕ → ℕ) (w : W) where
       answers = answers_lighter width_of w s.from later t v (standing_after f s.last (Piece s.begun ∷ [])) more same s.answers l;
     }
 
-    -- what no viewer is sent
+    -- the changes that the viewer doesn't need are forgotten
     pub sending_lighter : (v : Terminal W) (later : ℕ) → later ≡ due_from t number → t.surface.grid.widths ≡ w → Lightens width_of t v later → IsSending every start input rest old now v number left
     unfolding here
     sending_lighter v later e same l = by_number (eqb_tells number 0)
@@ -323,7 +323,7 @@ module _ {W : Type 0} (width_of : W → List ℕ → ℕ) (w : W) where
 
     -- ---- where it ends early
 
-    -- what was read, and bytes that were read after it
+    -- the updates written so far are a prefix of those of the bytes read, also where these go on with `bytes`
     pub sending_part : (next bytes : List ℕ) (remaining : Option (List ℕ)) → rest ≡ bytes ++ next → remaining ≡ Some next → SendsPart f every start input remaining old now
     sending_part next bytes remaining e known = record {
       part = record { read = s.read ++ bytes; rest = next; whole = s.whole ∙ ap (λ l. s.read ++ l) e ∙ sym (append_assoc s.read bytes next); remaining = known };
@@ -390,7 +390,7 @@ module _ {W : Type 0} (width_of : W → List ℕ → ℕ) (w : W) where
         (chunks_after input ((chunk ++ h.more) ∷ h.remaining) (input_is bytes next e ∙ ap (λ ps. s.done ++ ps) h.are) ∙ sym (standings_cut actions_join f s.last chunk h.more (Look ∷ looks h.remaining)))
         (subst (λ (x : Standing). 2 ^ 64 ≤ x.log.log.number) (chunks_join f s.last s.begun bytes) (needs_there width_of w s.from t here (Piece bytes ∷ []) tt same s.answers n))
 
-    -- a look that is refused a number after a chunk
+    -- where a look after a chunk is refused a number, the number after it is past those of 64 bits
     look_needs : (chunk : List ℕ) (u : Terminal W) → u.surface.grid.widths ≡ w → AnswersAt s.from u (with_chunk chunk) → NeedsNumber width_of u (Look ∷ []) → 2 ^ 64 ≤ (next_of chunk).log.log.number
     unfolding next_of with_chunk
     look_needs chunk u same a n =
@@ -414,7 +414,7 @@ module _ {W : Type 0} (width_of : W → List ℕ → ℕ) (w : W) where
 
     -- ---- memory
 
-    -- the chunks of what was read
+    -- the bytes read are the chunks done and the one that has begun
     chunks_read : in_chunks every [] s.read ≡ s.done ++ (s.begun ∷ [])
     chunks_read = ap (in_chunks every []) (sym (append-nil s.read)) ∙ s.chunks []
 
@@ -438,13 +438,13 @@ module _ {W : Type 0} (width_of : W → List ℕ → ℕ) (w : W) where
       });
     }
 
-    -- there are numbers for a look after a chunk
+    -- where there are numbers for a look after a chunk, the number after it has 64 bits
     look_fits : (chunk : List ℕ) (u : Terminal W) → u.surface.grid.widths ≡ w → AnswersAt s.from u (with_chunk chunk) → HasNumbers width_of u (Look ∷ []) → (next_of chunk).log.log.number < 2 ^ 64
     unfolding next_of with_chunk
     look_fits chunk u same a n =
         subst (λ (x : Standing). x.log.log.number < 2 ^ 64) (sym (standings_join f s.last (Piece chunk ∷ []) (Look ∷ []))) (fits_there width_of w s.from u (with_chunk chunk) (Look ∷ []) tt same a n)
 
-    -- a chunk that is full, with its look, and the one after it, in which nothing was read yet
+    -- after bytes that fill a chunk the number is that of its look: the next chunk is empty, and logs nothing
     full_number : (bytes : List ℕ) → 0 < length bytes → length s.begun + length bytes ≡ every → number_after f every start (s.read ++ bytes) ≡ (next_of (s.begun ++ bytes)).log.log.number
     unfolding next_of with_chunk
     full_number bytes some full =

@@ -1,4 +1,4 @@
--- What terminals show of others.
+-- Viewers that are terminals, and the screens that they show after updates, patches and sessions.
 use Rattle.std.proofs.Common.{◌≡◌, ℕ, ◌+◌, ◌*◌, ◌<◌, ◌≤◌, ◌^◌, false, Option, Some, None, List, [], ◌∷◌, ◌++◌, length, map, refl, sym, ap, subst, ◌∙◌, arith}
 use Rattle.cell_base.specs.Row.{space, plain_row}
 use Rattle.cell_base.specs.Screen.{Screen, IsScreen, height}
@@ -57,7 +57,7 @@ idle_stream : held_of [] ≡ nothing_held
 unfolding hand_out
 idle_stream = refl
 
--- a terminal that stands, with a lawful view, and whose changes can be sent
+-- a terminal that stands at a lawful view, whose cells are sound and whose changes have encodings
 pub record IsSound {W : Type 0} (width_of : W → List ℕ → ℕ) (t : Terminal W) : Type 0 where
   pub view : View
   pub stands : StandsAt t view
@@ -84,7 +84,7 @@ module _ {W : Type 0} (width_of : W → List ℕ → ℕ) where
   state_is : (t : Terminal W) → IsSound width_of t → IsState (state_in t)
   state_is t s = subst IsState (sym s.stands.state) s.lawful.lawful
 
-  -- what an update of the terminal is sent to
+  -- a viewer that is ready and idle, and shows the terminal at a number, can read the update for that number
   can_read : (t : Terminal W) (viewer : View) (number : ℕ) (f : List ℕ → ℕ) → of t ≡ f → f space ≡ 1 → IsSound width_of t → IsReady viewer → alone.IsIdle viewer → ShowsAt width_of viewer.state.screen number t
       → CanRead f viewer (state_in t).screen t.surface.log number
   can_read t viewer number f e narrow s ready idle shows = record {
@@ -98,7 +98,7 @@ module _ {W : Type 0} (width_of : W → List ℕ → ℕ) where
     shows = subst (λ g. Shows g viewer.state.screen number (state_in t).screen t.surface.log) e shows;
   }
 
-  -- a viewer that is idle can be sent changes
+  -- an idle viewer is ready for encodings
   ready_is : (v : Terminal W) (s : IsSound width_of v) → IsIdle v → IsReady s.view
   ready_is v s idle = record {
     lawful = s.lawful.lawful;
@@ -127,7 +127,7 @@ module _ {W : Type 0} (width_of : W → List ℕ → ℕ) where
 
   -- ---- a viewer at which a patch was fed
 
-  -- each view at which it stands is lawful
+  -- a sound terminal is sound at each view at which it stands
   abbrev pub at_view : (v : Terminal W) → IsSound width_of v → (view : View) → StandsAt v view → IsSound width_of v
   at_view v s view stands = record {
     view = view;
@@ -283,7 +283,7 @@ module _ {W : Type 0} (width_of : W → List ℕ → ℕ) where
       let quiet = subst (λ x. alone.IsIdle (after (width_of x) (new_view width rows) (Piece bytes ∷ []))) (sym e) (law (width_of w) width rows every input narrow size) in
       record { run = there.run ∙ quiet.run; unfinished = there.unfinished ∙ quiet.stream }
 
-  -- ---- what is sent
+  -- ---- the bytes, the texts and the changes of an update
 
   some_of : {A : Type 0} (o : Option A) → (o ≡ None → ⊥) → (x : A) × (o ≡ Some x)
   some_of None h = absurd (h refl)
@@ -339,7 +339,7 @@ module _ {W : Type 0} (width_of : W → List ℕ → ℕ) where
       subst (λ (y : Surface W). y.log.most ≡ most_due y.grid.width (length y.grid.lines)) e (most (ap (λ (y : Surface W). y.is_failed) e ∙ p.surface.stays))
       ∙ ap (most_due t.surface.grid.width) (sym (length-map t.surface.grid.lines (λ l. l.columns)))
 
-  -- ---- what is rendered for one change
+  -- ---- the rendering of one change
 
   module _ (v later : Terminal W) (change : ChangeValue) (actions : List StreamAction) (sv : IsSound width_of v) (idle : IsIdle v)
       (sent : rendering change (state_in v).screen.width (height (state_in v).screen) ≡ Some actions) (writable : IsWritable actions) (g : GoesBy width_of v later (Piece (stream_text actions) ∷ [])) where

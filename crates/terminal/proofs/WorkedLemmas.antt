@@ -30,7 +30,7 @@ use Rattle.terminal_viewers.specs.Updates.{Standing, looks, new_standing, standi
 
 -- ---- values that are compared
 
--- attributes, and cells, are what they are
+-- attributes, and cells, are equal to themselves
 pub attributes_alike : (a : Attributes) → same_attributes a a ≡ true
 attributes_alike a = (same_attributes_decides a a).1 refl
 
@@ -57,7 +57,7 @@ letter_cell c = record { text = c ∷ []; width = 1; attributes = plain }
 letters_differ : (a b : ℕ) → (a ≡ b → ⊥) → same_cell (letter_cell a) (letter_cell b) ≡ false
 letters_differ a b n = cells_differ (letter_cell a) (letter_cell b) (λ e. n (ap (λ (text : List ℕ). get_or text 0 0) e))
 
--- what paints such a screen
+-- the changes that paint a worked screen, given those of its rows
 abbrev pub painted_changes : List ChangeValue → List ChangeValue
 painted_changes rows = (CursorVisibility Hidden ∷ ClearScreen Default ∷ Title [] ∷ []) ++ rows ++ CursorVisibility Visible ∷ []
 
@@ -128,7 +128,7 @@ short_encoded = refl
 pub short_bytes : update_after 2 2 (shown (codes "a\r\nb")) 0 ≡ painted (printed (codes "a") ++ csi (codes "B") ++ csi (codes "1G") ++ printed (codes "b") ++ csi (codes "2;2H"))
 short_bytes = update_bytes 2 2 (shown (codes "a\r\nb")) (screen_of 2 (letters (codes "a ") ∷ letters (codes "b ") ∷ []) 1 1) short_painted _ short_screen short_changes short_encoded
 
--- ---- what is written of three letters
+-- ---- the updates for three letters
 
 abbrev two_painted : List ChangeValue
 two_painted = painted_changes (Text (codes "ab") ∷ CursorPosition (Absolute 2) (Absolute 0) ∷ [])

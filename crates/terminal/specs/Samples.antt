@@ -1,4 +1,4 @@
--- What viewers are sent, for worked examples.
+-- Updates and patches of worked examples.
 use Rattle.std.specs.Prelude.{ℕ, List, [], ◌∷◌, ◌++◌, codes}
 use Rattle.cell_base.specs.Cluster.{program_width}
 use Rattle.screen_difference.specs.Prints.{PlacedText}

@@ -21,8 +21,8 @@ pub record Terminal (W : Type 0) : Type 0 where
 abbrev pub state_in : {W : Type 0} → Terminal W → State
 state_in t = state_of t.surface t.saved t.replies
 
--- Each of its changes can be sent: its screen, the pen that was saved, the run and the changes that its log keeps have
--- an encoding.
+-- Viewers can get each of its changes: its screen, the pen that was saved, the run and the changes that its log keeps
+-- have an encoding.
 pub record IsSpelled {W : Type 0} (t : Terminal W) : Type 0 where
   pub surface : CanBeEncoded t.surface
   pub saved : IsSpelledSaved t.saved

@@ -47,7 +47,7 @@ pub(crate) fn write_and_flush<T: Write>(
 /// How many reads an input may take.
 pub(crate) const READS: u64 = 1 << 48;
 
-// Forgets the changes before a number, and the replies: nobody is sent them any more.
+// Forgets the changes before a number, and the replies: nobody reads them any more.
 pub(crate) fn forget<W: Widths + Drop>(terminal: &mut Terminal<W>, number: SequenceNo)
     requires sound { terminal.old.is_failed ≡ false }
     ensures lighter { Lightens (λ w. W.width_of w) terminal.old terminal.new number }
@@ -122,7 +122,7 @@ fn read_all<R: Read, W: Widths + Drop>(
     ensures memory { IsErrOf result (RunError.Terminal TerminalError.Memory) → IfSome (R.remaining reader.old.inner)
         (λ input. IsRefusedMemory (W.width_of widths) (new_standing width height) one_look input
         (R.remaining reader.new.inner)) }
-    // So it is where the rows are refused memory.
+    // `show` needs this if memory for the rows is refused afterwards.
     ensures rows { OnOk result (IfSome (R.remaining reader.old.inner)
         (λ input. IsRefusedMemory (W.width_of widths) (new_standing width height) one_look input
         (R.remaining reader.new.inner))) }

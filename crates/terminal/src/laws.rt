@@ -26,8 +26,8 @@ use cell_base::Widths;
 use terminal_table::laws::single_actions_are_their_rows;
 
 /// Each terminal that hasn't failed is at a view (`StandsAt`), with a lawful state and a run without controls;
-/// and its screen, the saved pen, the run and each change that its log keeps have an encoding, so that they can be
-/// sent.
+/// and its screen, the saved pen, the run and each change that its log keeps have an encoding, so that viewers can
+/// get them.
 pub fn terminals_stand<W: Widths + Drop>(terminal: &Terminal<W>)
     ensures stands { terminal.now.is_failed ≡ false → (view : View) × StandsAt terminal.now view × IsView view }
     ensures spelled { terminal.now.is_failed ≡ false → IsSpelled terminal.now }

@@ -255,7 +255,7 @@ impl<W: Widths + Drop> Terminal<W> {
         self.state.surface().current_seqno()
     }
 
-    // A terminal that hasn't failed is at a view, and each of its changes can be sent.
+    // A terminal that hasn't failed is at a view, and each of its changes has an encoding.
     pub(crate) fn stands(&self)
         ensures stands { self.now.is_failed ≡ false → (view : View) × StandsAt self.now view × IsView view }
         ensures spelled { self.now.is_failed ≡ false → IsSpelled self.now }

@@ -55,7 +55,7 @@ fn write_update<T: Write, W: Widths + Drop>(
 }
 
 // From where on changes are due to a viewer that has seen those before a number. One at number 0 has seen nothing and
-// is sent the whole screen.
+// gets the whole screen.
 fn due_from<W: Widths + Drop>(terminal: &Terminal<W>, number: SequenceNo) -> SequenceNo
     ensures { result ≡ due_from terminal.now number }
 {

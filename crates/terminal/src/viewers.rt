@@ -161,9 +161,9 @@ pub fn first_updates_tell_screens<W: Widths + Drop>(one: &Terminal<W>, other: &T
 }
 
 /// An update has at most 2wh + 2h + 11 changes on a screen of w columns and h rows. For each of them at most
-/// 320 bytes are sent beside its text, its title, or its link's parameters and URI, and an update has no more
-/// bytes than what is sent for each at most. Whoever reads it prints the texts of its changes, each once and in
-/// turn, and nothing else.
+/// 320 bytes encode it beside its text, its title, or its link's parameters and URI, and an update has no more
+/// bytes than these bounds add up to. Whoever reads it prints the texts of its changes, each once
+/// and in turn, and nothing else.
 pub fn updates_are_small<W: Widths + Drop>(terminal: &Terminal<W>)
     ensures count { (number : ℕ) → terminal.now.is_failed ≡ false
         → length (changes_for terminal.now number)

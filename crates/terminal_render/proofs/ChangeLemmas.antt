@@ -65,7 +65,7 @@ scroll_some scroll height first size count h =
     equal_some _ (if count == 0 then [] else edited (scroll (min count height)) ∷ [])
     (ap (λ b. if b then Some (if count == 0 then [] else edited (scroll (min count height)) ∷ []) else None) h)
 
--- where a change goes: a position that moves reach, and a region of all rows; and it is none that nothing says
+-- the coordinates of a change can be encoded: moves reach its position, or its region is all rows; three kinds of changes have no encoding
 abbrev pub IsPlaced : ℕ → ℕ → ChangeValue → Type 0
 IsPlaced width height (CursorPosition x y) = position_moves width height x y ≢ None
 IsPlaced width height (ScrollRegionUp first size count) = is_whole height first size ≡ true
@@ -110,7 +110,7 @@ change_of_code (Title title) u = u.utf8
 change_of_code _ u = tt
 
 pub is_encoded : (width height : ℕ) (change : ChangeValue) → IsSpelledChange change → IsPlaced width height change → IsLinePart change → HasEncoding width height change
-is_encoded width height change u g k = record { of_code = change_of_code change u; part = k; sent = change_some width height change u g }
+is_encoded width height change u g k = record { of_code = change_of_code change u; part = k; encoded = change_some width height change u g }
 
 abbrev pub AreLineParts : List ChangeValue → Type 0
 AreLineParts = AllByRecursion IsLinePart
@@ -137,7 +137,7 @@ coordinate_some width height column y h =
     let within : nat_le width column ≡ false = grind (arith, nat_tests) in
     subst (λ b. (if b then None else moves (way_of width (Absolute column)) (way_of height y)) ≢ None) (sym within) (at_some (min column (width - 1) + 1) (way_of height y))
 
--- ---- the changes of control functions go where moves reach
+-- ---- control functions: the coordinates of their changes can be encoded
 
 position_placed : (at : ℕ × ℕ) (s : Screen) → 0 < s.width → IsPlaced s.width (height s) (position at s)
 position_placed at s h = coordinate_some s.width (height s) (min at.0 (s.width - 1)) (Absolute (min at.1 (height s - 1))) (omega arith)
@@ -174,7 +174,7 @@ changes_placed table.FullReset saved s h = (tt, (tt, tt))
 changes_placed table.ReportStatus saved s h = tt
 changes_placed table.ReportPosition saved s h = tt
 
--- ---- print nothing, and end lines
+-- ---- control functions: the texts of their changes are the ends of lines
 
 rendition_part : (value : Sgr) (pen : Attributes) → AreLineParts (rendition_changes value pen)
 rendition_part (sgr.Font value) pen = tt
@@ -205,7 +205,7 @@ changes_are_parts table.FullReset saved s = (tt, (tt, tt))
 changes_are_parts table.ReportStatus saved s = tt
 changes_are_parts table.ReportPosition saved s = tt
 
--- ---- and bring nothing that has no encoding
+-- ---- control functions: their changes hold only values that have an encoding
 
 attribute_spelled : (color : ColorSpec) → IsColour color → IsSpelledColor (attribute_of color)
 attribute_spelled spec.Default h = tt

@@ -1,4 +1,4 @@
--- What is sent for clears.
+-- The encodings of clears.
 use Rattle.std.proofs.Common.{◌≡◌, ℕ, ◌-◌, List, [], ◌∷◌, ◌++◌, length, replicate, refl, sym, ap, ◌∙◌, arith}
 use Rattle.std.specs.Prelude.{min, All, Option, None, IfSome, slice_index_or, slice_set}
 use Rattle.std.proofs.lemmas.List.{length-replicate}
@@ -38,7 +38,7 @@ module _ (f : List ℕ → ℕ) (saved : Option SavedCursor) (replies : List ℕ
   plain_pen_does (spec.PaletteIndex n) = refl
   plain_pen_does (spec.TrueColor c) = refl
 
-  -- what an erasure makes of the screen with that pen
+  -- from the screen with this blank pen the actions `erasure` lead to the screen `after`
   abbrev Erases : ColorAttribute → List StreamAction → Screen → Type 0
   Erases color erasure after = actions_done f (on f saved replies stream (with_pen (blank_of color) s)) erasure ≡ on f saved replies stream after
 

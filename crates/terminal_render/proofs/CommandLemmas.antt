@@ -88,7 +88,7 @@ command_request (set_window_title text) h = h
 command_request (set_hyperlink link) h = h
 command_request _ h = tt
 
--- what was read, if something was
+-- the command that was read, if there is one, has an encoding
 abbrev Reads : Option Command → Type 0
 Reads found = IfSome found IsSpelledCommand
 

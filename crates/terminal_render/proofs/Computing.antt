@@ -1,4 +1,4 @@
--- What worked examples unfold: from a change to the bytes that are sent for it.
+-- The definitions that worked examples unfold, from a change to the bytes of its encoding.
 use Rattle.std.specs.Str.{chars, is_utf8}
 use Rattle.std.specs.Char.{encode_utf8}
 use Rattle.std.specs.Fmt.{digits}
@@ -14,7 +14,7 @@ use Rattle.terminal_render.specs.Positions.{moves, position_moves}
 use Rattle.terminal_render.specs.Rendering.{scroll_rendering}
 use Rattle.terminal_render.specs.Texts.{text_rendering, title_rendering}
 
--- `unfolding sending` lets `refl` compute the bytes that are sent for a change
+-- `unfolding sending` lets `refl` compute the bytes of a change's encoding
 unfoldable pub sending : Unit {0}
 unfolding chars is_utf8 digits encode_utf8 link_text texts_reading link_reading cursor_spelling edit_spelling mode_spelling sgr_spelling holds_c1 is_carried attribute_action pen_rendering clear_rendering moves position_moves scroll_rendering text_rendering title_rendering
 sending = tt

@@ -176,7 +176,7 @@ module _ (f : List ℕ → ℕ) (saved : Option SavedCursor) (replies : List ℕ
   last_row : (at : ℕ) → min at (height s - 1) < height s
   last_row at = let h = lawful.row_in in omega arith
 
-  -- a known column
+  -- moves to the column `x`
   column_does : (x : ℕ) (y : Position) → x < s.width → IfSome (moves (At (x + 1)) (way_of (height s) y)) (λ cursors. Leads cursors x (resolved (height s) s.row y))
   unfolding moves
   column_does x (Absolute at) a = to_coordinate x (min at (height s - 1)) a (last_row at)
@@ -184,7 +184,7 @@ module _ (f : List ℕ → ℕ) (saved : Option SavedCursor) (replies : List ℕ
   column_does x (Relative (pos n)) a = down_to_column x n a
   column_does x (Relative (negsuc n)) a = up_to_column x (n + 1) a
 
-  -- so many columns on
+  -- moves by `m` columns to the right
   on_does : (m : ℕ) (y : Position) → IfSome (moves (On m) (way_of (height s) y)) (λ cursors. Leads cursors (min (s.column + m) (s.width - 1)) (resolved (height s) s.row y))
   unfolding moves
   on_does m (Absolute at) = right_to_row m (min at (height s - 1)) (last_row at)

@@ -42,7 +42,7 @@ some_text : (b : ℕ) (text : List ℕ) → (length (b ∷ text) == 0) ≡ false
 some_text b text = grind (arith, nat_tests)
 
 module _ (f : List ℕ → ℕ) (saved : Option SavedCursor) (replies : List ℕ) (stream : List ℕ) where
-  -- a screen and what is kept beside it, where no run is held
+  -- the view of a screen with this saved cursor, these replies and this stream, in which no run is held
   abbrev pub on : Screen → View
   on screen = record { state = record { screen = screen; saved = saved; replies = replies }; stream = stream; held = [] }
 

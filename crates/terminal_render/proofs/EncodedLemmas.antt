@@ -15,9 +15,9 @@ use Rattle.terminal_render.specs.BorrowedActionView.{borrowed_value, borrowed_va
 use Rattle.terminal_render.proofs.ListLemmas.{renderings_join}
 use Rattle.terminal_render.proofs.OpeningLemmas.{following_bytes, one_opens, rendering_opens}
 
--- ---- what was there
+-- ---- the bytes before a call
 
--- it stands before still where it stood there, and what stood there then does
+-- a prefix `start` of `bytes` is a prefix of all bytes of which `bytes` is a prefix
 pub still_prefix : (start bytes after : List ℕ) → take (length start) bytes ≡ start → take (length bytes) after ≡ bytes → take (length start) after ≡ start
 still_prefix start bytes after e f =
     let l = sym (length-take (length start) bytes) ∙ ap length e in
@@ -56,7 +56,7 @@ text_end bytes items i h = at_drop_all (λ (rest : List BorrowedAction). bytes +
 
 -- ---- changes in turn
 
--- the bytes of what is sent, after others
+-- the bytes `start`, and then those of a rendering, if there is one
 abbrev pub bytes_after : List ℕ → Option (List StreamAction) → Option (List ℕ)
 bytes_after start found = option_map (λ actions. start ++ stream_text actions) found
 
@@ -105,7 +105,7 @@ next_of_changes start bytes after changes i change width height before list belo
     (map_more value_of changes i change below ∙ ap (λ (c : Change). map value_of (take i changes) ++ value_of c ∷ []) (sym item))
     ∙ next_appended start bytes after (map value_of (take i changes)) (value_of change) width height before list e none stands appended
 
--- one without an encoding
+-- where one of the changes has no rendering, the changes in turn have none
 pub none_rendered : (changes : List Change) (i : ℕ) (change : Change) (width height : ℕ) → i < length changes → change ≡ get_or changes i change → rendering (value_of change) width height ≡ None
     → all_rendered (map value_of changes) width height ≡ None
 none_rendered [] i change width height below item none = absurd (omega (arith, below))
@@ -119,12 +119,12 @@ none_rendered (c ∷ changes) (suc i) change width height below item none =
     no_more None = refl
     no_more (Some first) = refl
 
--- so each has one where all have
+-- so each change has a rendering where the changes in turn have one
 pub each_rendered : (changes : List Change) (i : ℕ) (change : Change) (width height : ℕ) → i < length changes → change ≡ get_or changes i change → all_rendered (map value_of changes) width height ≢ None
     → rendering (value_of change) width height ≢ None
 each_rendered changes i change width height below item h none = h (none_rendered changes i change width height below item none)
 
--- after changes that have one the rest has one where all have
+-- after a change that has a rendering, the remaining ones have one just where they have one with this change
 pub rest_rendered : (changes : List Change) (i : ℕ) (change : Change) (width height : ℕ) → i < length changes → change ≡ get_or changes i change → is_some (rendering (value_of change) width height) ≡ true
     → is_some (all_rendered (map value_of (drop (i + 1) changes)) width height) ≡ is_some (all_rendered (map value_of (drop i changes)) width height)
 rest_rendered changes i change width height below item some =

@@ -1,4 +1,4 @@
--- How many bytes are sent for changes in turn at most.
+-- An upper bound on the bytes that encode changes in turn.
 use Rattle.std.proofs.Common.{◌≡◌, ℕ, ◌+◌, ◌*◌, ◌≤◌, inl, inr, Bool, false, List, [], ◌∷◌, ◌++◌, length, refl, sym, ap, subst, arith, length-append}
 use Rattle.std.specs.Prelude.{not, IfSome, Option, None, Some}
 use Rattle.std.specs.List.{list_all}
@@ -48,7 +48,7 @@ module _ (remaining : RenderingsAreShort) (texts : TextsAreShort) (runs : RunsAr
 
   -- ---- each by itself
 
-  if_encoded : (most : ℕ) (sent : Option (List StreamAction)) → ((actions : List StreamAction) → sent ≡ Some actions → length (stream_text actions) ≤ most) → IfSome sent (λ actions. length (stream_text actions) ≤ most)
+  if_encoded : (most : ℕ) (found : Option (List StreamAction)) → ((actions : List StreamAction) → found ≡ Some actions → length (stream_text actions) ≤ most) → IfSome found (λ actions. length (stream_text actions) ≤ most)
   if_encoded most None h = tt
   if_encoded most (Some actions) h = h actions refl
 

@@ -1,4 +1,4 @@
--- The bytes of what is sent are fed: they are read as its actions, with prints split and string terminators added.
+-- Encodings that are fed as bytes: they are read as their actions, with prints split and string terminators added.
 use Rattle.std.proofs.Common.{◌≡◌, ℕ, Bool, true, false, List, [], ◌∷◌, ◌++◌, map, fold, refl, sym, ap, ◌∙◌}
 use Rattle.std.specs.Prelude.{⊤, Some, None}
 use Rattle.std.specs.Str.{IsUtf8, chars}
@@ -23,7 +23,7 @@ use Rattle.terminal_table.proofs.TextLemmas.{with_text}
 use Rattle.terminal_render.specs.Effects.{actions_done, RenderedTextsHaveTheEffect, RenderedTextsLeaveIdle}
 use Rattle.terminal_render.proofs.WholeLemmas.{have_the_effect}
 
--- ---- what is read does what was sent
+-- ---- the actions that are read do what the encoded actions do
 
 module _ (f : List ℕ → ℕ) where
   pub joined : (xs ys : List StreamAction) (v : View) → actions_done f v (xs ++ ys) ≡ actions_done f (actions_done f v xs) ys
@@ -43,7 +43,7 @@ module _ (f : List ℕ → ℕ) where
   text_done : (text : List ℕ) (v : View) → IsUtf8 text → actions_done f v (map print (chars text)) ≡ actions_done f v (print_string text ∷ [])
   text_done text v u = with_text f v (chars text) ∙ (λ i. record v { held = v.held ++ encodes-chars text u i })
 
-  -- after what closes a string no run is held
+  -- after an action that closes a string no run is held
   closed_run : (a : StreamAction) (v : View) → closes_string a ≡ true → (event_done f v (Act a)).held ≡ []
   closed_run (command c) v e = refl
   closed_run exit v e = refl
@@ -97,7 +97,7 @@ module _ (f : List ℕ → ℕ) where
 -- ---- fed
 
 module _ (idle : (stream : List ℕ) → held_of stream ≡ nothing_held → tail_of stream ≡ Begun []) (whole : (stream : List ℕ) → tail_of stream ≡ Begun [] → held_of stream ≡ nothing_held) (reads : WritableListsReadOn) (ends : WritableListsEndOn) where
-  -- the bytes do what the actions do
+  -- feeding the bytes of writable actions does what the actions do
   pub fed : (f : List ℕ → ℕ) (view : View) (actions : List StreamAction) → IsIdle view → IsWritable actions → after f view (Piece (stream_text actions) ∷ []) ≡ record (actions_done f view actions) { stream = view.stream ++ stream_text actions }
   fed f view actions i h = λ j. record (done j) { stream = view.stream ++ nothing_after (stream_text actions) j }
     where

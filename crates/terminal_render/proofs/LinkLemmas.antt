@@ -29,7 +29,7 @@ are_params : (ps : List Param) → same_params ps ps ≡ true
 are_params [] = refl
 are_params (p ∷ ps) = and_from (bytes_eq p.0 p.0 && bytes_eq p.1 p.1) (same_params ps ps) (and_from (bytes_eq p.0 p.0) (bytes_eq p.1 p.1) (texts_same p.0) (texts_same p.1)) (are_params ps)
 
--- what was read is the link
+-- a reading that passes the test `is_reading_of` has read the given link
 reading_is : (link : Link) (reading : Result (Option Link) LinkError) → is_reading_of link reading ≡ true → reading ≡ Ok (Some link)
 reading_is link (Ok (Some read)) e =
     let both = and_parts (not read.implicit && not link.implicit) (same_params read.params link.params && bytes_eq read.uri link.uri) e in
@@ -59,6 +59,6 @@ same_answer true b f g = sym (f refl)
 same_answer false true f g = g refl
 same_answer false false f g = refl
 
--- an answer that tells it
-pub told : (answer : Bool) (link : Link) → IsTrue answer ↔ IsReadBack link → answer ≡ reads_back link
-told answer link tells = same_answer answer (reads_back link) (λ e. is_read_back link (tells.0 e)) (λ e. tells.1 (reads_back_is link e))
+-- an answer that is true if and only if the link reads back is `reads_back link`
+pub answers_read_back : (answer : Bool) (link : Link) → IsTrue answer ↔ IsReadBack link → answer ≡ reads_back link
+answers_read_back answer link tells = same_answer answer (reads_back link) (λ e. is_read_back link (tells.0 e)) (λ e. tells.1 (reads_back_is link e))

@@ -1,4 +1,4 @@
--- What is sent for changes in turn.
+-- The encodings of changes in turn.
 use Rattle.std.proofs.Common.{◌≡◌, ℕ, ◌^◌, ◌<◌, List, [], ◌∷◌, ◌++◌, refl, sym, ap, subst, ◌∙◌, append_assoc}
 use Rattle.std.specs.Prelude.{Option, Some, None, option_map, option_and_then}
 use Rattle.cell_base.specs.Screen.{Screen, height}
@@ -22,7 +22,7 @@ use Rattle.terminal_render.proofs.WholeLemmas.{have_the_effect}
 
 -- ---- the effect
 
--- a terminal at which a change had its effect can be sent more
+-- a terminal that is ready for an encoding is ready after the change's effect as well
 ready_after : (f : List ℕ → ℕ) (view : View) (d : Display) (change : ChangeValue) → IsReady view → IsDisplay d → d.screen ≡ view.state.screen → IsReady (with_change f view d change)
 ready_after f view d change ready h same =
     let lawful = effect_is f d change h in
@@ -31,7 +31,7 @@ ready_after f view d change ready h same =
     let tall : height (effect f d change).screen ≡ height view.state.screen = size.tall ∙ ap (λ (s : Screen). height s) same in
     record { lawful = record { lawful = lawful.lawful; whole = lawful.whole }; width = subst (λ n. n < 2 ^ 32) (sym width) ready.width; height = subst (λ n. n < 2 ^ 32) (sym tall) ready.height; run = ready.run }
 
--- the parts of such a list
+-- the parts of a list of actions: the rendering of the first change, and that of the remaining ones
 pub record Parts (found rest : Option (List StreamAction)) (actions : List StreamAction) : Type 0 where
   pub first : List StreamAction
   pub remaining : List StreamAction

@@ -32,11 +32,11 @@ encodings_drop width tall zero xs h = h
 encodings_drop width tall (suc n) [] h = tt
 encodings_drop width tall (suc n) (x ∷ xs) h = encodings_drop width tall n xs h.1
 
--- what is sent for them in turn
+-- changes that each have an encoding have one in turn
 pub all_some : (width tall : ℕ) (changes : List ChangeValue) → HaveEncodings width tall changes → all_rendered changes width tall ≢ None
 all_some width tall [] h = λ e. cc
 all_some width tall (change ∷ changes) h =
-    then_some (λ first. option_map (λ remaining. first ++ remaining) (all_rendered changes width tall)) (rendering change width tall) h.0.sent
+    then_some (λ first. option_map (λ remaining. first ++ remaining) (all_rendered changes width tall)) (rendering change width tall) h.0.encoded
     (λ first. map_some (λ remaining. first ++ remaining) (all_rendered changes width tall) (all_some width tall changes h.1))
 
 pub due_has : (width tall most : ℕ) (l : Log) (number : ℕ) → HaveEncodings width tall l.entries → IfSome (due most l number) (HaveEncodings width tall)
@@ -70,7 +70,7 @@ steps_have width tall (log.Resized most ∷ steps) s h k = steps_have width tall
 abbrev KeepsSpelled : View → Sized → Type 0
 KeepsSpelled v s = HaveEncodings v.state.screen.width (height v.state.screen) s.log.entries
 
--- what is logged for an event leaves such a log, at the size of the screen before it
+-- after the steps that an event logs the log's changes have encodings, at the size of the screen before the event
 logged_keeps : (width_of : List ℕ → ℕ) (v : View) (event : Event) (s : Sized) → IsView v → IsSpelledView v → IsSpelledEvent event → KeepsSpelled v s → KeepsSpelled v (fold step_of_kept s (event_logged width_of v event))
 logged_keeps width_of v event s h p q k = steps_have v.state.screen.width (height v.state.screen) (event_logged width_of v event) s (event_encoded width_of v event h p q) k
 

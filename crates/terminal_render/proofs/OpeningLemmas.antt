@@ -1,4 +1,4 @@
--- No list of actions that is sent begins with a string terminator, so its bytes follow any others as they are.
+-- No rendering begins with a string terminator, so after other actions its bytes are the same as alone.
 use Rattle.std.proofs.Common.{◌≡◌, ℕ, Bool, true, false, List, [], ◌∷◌, ◌++◌, map, refl, sym, ap, subst, ◌∙◌, append_assoc}
 use Rattle.std.specs.Prelude.{◌==◌, ◌||◌, Option, None, Some, IfSome, option_map, if◌then◌else◌}
 use Rattle.std.specs.List.{flat_map}
@@ -135,7 +135,7 @@ rendering_opens (CursorColor color) width height = tt
 rendering_opens (CursorShape shape) width height = tt
 rendering_opens (LineAttribute size) width height = tt
 
--- ---- after others
+-- ---- renderings after other actions
 
 pub one_opens : (found : Option (List StreamAction)) (actions : List StreamAction) → AllOpen found → found ≡ Some actions → Opens actions
 one_opens found actions h e = subst (λ (o : Option (List StreamAction)). AllOpen o) e h

@@ -1,4 +1,4 @@
--- What is sent of attributes, and what it makes of the pen.
+-- The encoding of attributes, and the pen after it.
 use Rattle.std.proofs.Common.{◌≡◌, ℕ, Bool, true, false, List, [], ◌∷◌, ◌++◌, fold, refl, sym, ap, ◌∙◌}
 use Rattle.std.specs.Prelude.{◌||◌, not, Option, None, Some}
 use Rattle.std.specs.List.{flat_map}
@@ -98,12 +98,12 @@ set_line_color p (spec.TrueColor c) = refl
 
 -- the attributes with colours, on a plain pen with a link
 abbrev settled_pen : Option Link → Attributes → ColorSpec → ColorSpec → ColorSpec → Attributes
-settled_pen link a prefix back line =
-    record a { wrapped = false; semantic_type = type.Output; foreground = attribute_of prefix; background = attribute_of back; underline_color = attribute_of line; hyperlink = link }
+settled_pen link a foreground background underline =
+    record a { wrapped = false; semantic_type = type.Output; foreground = attribute_of foreground; background = attribute_of background; underline_color = attribute_of underline; hyperlink = link }
 
 -- all settings in turn, after a reset
-all_set : (link : Option Link) (a : Attributes) (prefix back line : ColorSpec) → fold set_pen (record plain { hyperlink = link }) (settings a prefix back line) ≡ settled_pen link a prefix back line
-all_set link a prefix back line =
+all_set : (link : Option Link) (a : Attributes) (foreground background underline : ColorSpec) → fold set_pen (record plain { hyperlink = link }) (settings a foreground background underline) ≡ settled_pen link a foreground background underline
+all_set link a foreground background underline =
     let p0 : Attributes = record plain { hyperlink = link } in
     let p1 : Attributes = record p0 { intensity = a.intensity } in
     let p2 : Attributes = record p1 { underline = a.underline } in
@@ -114,12 +114,12 @@ all_set link a prefix back line =
     let p7 : Attributes = record p6 { invisible = a.invisible } in
     let p8 : Attributes = record p7 { overline = a.overline } in
     let p9 : Attributes = record p8 { vertical_align = a.vertical_align } in
-    let p10 : Attributes = record p9 { foreground = attribute_of prefix } in
-    let p11 : Attributes = record p10 { background = attribute_of back } in
-    let v12 : Option Sgr = unless_default sgr.UnderlineColor line in
+    let p10 : Attributes = record p9 { foreground = attribute_of foreground } in
+    let p11 : Attributes = record p10 { background = attribute_of background } in
+    let v12 : Option Sgr = unless_default sgr.UnderlineColor underline in
     let r11 : List (Option Sgr) = v12 ∷ [] in
-    let r10 : List (Option Sgr) = unless_default sgr.Background back ∷ r11 in
-    let r9 : List (Option Sgr) = unless_default sgr.Foreground prefix ∷ r10 in
+    let r10 : List (Option Sgr) = unless_default sgr.Background background ∷ r11 in
+    let r9 : List (Option Sgr) = unless_default sgr.Foreground foreground ∷ r10 in
     let r8 : List (Option Sgr) = unless_base_line a.vertical_align ∷ r9 in
     let r7 : List (Option Sgr) = unless_off sgr.Overline a.overline ∷ r8 in
     let r6 : List (Option Sgr) = unless_off sgr.Invisible a.invisible ∷ r7 in
@@ -137,9 +137,9 @@ all_set link a prefix back line =
     ∙ ap (λ p. fold set_pen p r7) (set_invisible p6 a.invisible)
     ∙ ap (λ p. fold set_pen p r8) (set_overline p7 a.overline)
     ∙ ap (λ p. fold set_pen p r9) (set_align p8 a.vertical_align)
-    ∙ ap (λ p. fold set_pen p r10) (set_foreground p9 prefix)
-    ∙ ap (λ p. fold set_pen p r11) (set_background p10 back)
-    ∙ set_line_color p11 line
+    ∙ ap (λ p. fold set_pen p r10) (set_foreground p9 foreground)
+    ∙ ap (λ p. fold set_pen p r11) (set_background p10 background)
+    ∙ set_line_color p11 underline
 
 output_type : (t : SemanticType) → not (is_output t) ≡ false → type.Output ≡ t
 output_type type.Output e = refl
@@ -147,9 +147,9 @@ output_type type.Input e = cc
 output_type type.Prompt e = cc
 
 -- so, with the link, the attributes are the pen
-pen_is : (a : Attributes) (prefix back line : ColorSpec) → lacks_encoding a ≡ false → attribute_of prefix ≡ a.foreground → attribute_of back ≡ a.background → attribute_of line ≡ a.underline_color
-    → settled_pen a.hyperlink a prefix back line ≡ a
-pen_is a prefix back line e f b l =
+pen_is : (a : Attributes) (foreground background underline : ColorSpec) → lacks_encoding a ≡ false → attribute_of foreground ≡ a.foreground → attribute_of background ≡ a.background → attribute_of underline ≡ a.underline_color
+    → settled_pen a.hyperlink a foreground background underline ≡ a
+pen_is a foreground background underline e f b l =
     let both = or_parts (a.wrapped || not (is_output a.semantic_type)) (not (is_carried a.hyperlink)) e in
     let kept = or_parts a.wrapped (not (is_output a.semantic_type)) both.0 in
     let w : a.wrapped ≡ false = kept.0 in
@@ -195,13 +195,13 @@ module _ (f : List ℕ → ℕ) (saved : Option SavedCursor) (replies : List ℕ
       ∙ settings_do values (with_pen (set_pen s.pen value) s)
 
   -- all attributes
-  pub pen_does : (a : Attributes) (prefix back line : ColorSpec) (s : Screen) → lacks_encoding a ≡ false → attribute_of prefix ≡ a.foreground → attribute_of back ≡ a.background → attribute_of line ≡ a.underline_color
-      → actions_done f (on f saved replies stream s) (pen_actions (settings a prefix back line) a.hyperlink) ≡ on f saved replies stream (with_pen a s)
-  pen_does a prefix back line s e k b l =
-      done_append f saved replies stream (rendition sgr.Reset ∷ []) (flat_map set (settings a prefix back line) ++ link_action a.hyperlink ∷ []) (on f saved replies stream s)
-      ∙ ap (λ view. actions_done f view (flat_map set (settings a prefix back line) ++ link_action a.hyperlink ∷ [])) (rendition_does sgr.Reset s)
-      ∙ done_append f saved replies stream (flat_map set (settings a prefix back line)) (link_action a.hyperlink ∷ []) (on f saved replies stream (with_pen (with_rendition sgr.Reset s.pen) s))
-      ∙ ap (λ view. actions_done f view (link_action a.hyperlink ∷ [])) (settings_do (settings a prefix back line) (with_pen (with_rendition sgr.Reset s.pen) s))
-      ∙ ap (λ (p : Attributes). actions_done f (on f saved replies stream (with_pen p s)) (link_action a.hyperlink ∷ [])) (all_set s.pen.hyperlink a prefix back line)
-      ∙ link_does a.hyperlink (with_pen (settled_pen s.pen.hyperlink a prefix back line) s)
-      ∙ ap (λ (p : Attributes). on f saved replies stream (with_pen p s)) (pen_is a prefix back line e k b l)
+  pub pen_does : (a : Attributes) (foreground background underline : ColorSpec) (s : Screen) → lacks_encoding a ≡ false → attribute_of foreground ≡ a.foreground → attribute_of background ≡ a.background → attribute_of underline ≡ a.underline_color
+      → actions_done f (on f saved replies stream s) (pen_actions (settings a foreground background underline) a.hyperlink) ≡ on f saved replies stream (with_pen a s)
+  pen_does a foreground background underline s e k b l =
+      done_append f saved replies stream (rendition sgr.Reset ∷ []) (flat_map set (settings a foreground background underline) ++ link_action a.hyperlink ∷ []) (on f saved replies stream s)
+      ∙ ap (λ view. actions_done f view (flat_map set (settings a foreground background underline) ++ link_action a.hyperlink ∷ [])) (rendition_does sgr.Reset s)
+      ∙ done_append f saved replies stream (flat_map set (settings a foreground background underline)) (link_action a.hyperlink ∷ []) (on f saved replies stream (with_pen (with_rendition sgr.Reset s.pen) s))
+      ∙ ap (λ view. actions_done f view (link_action a.hyperlink ∷ [])) (settings_do (settings a foreground background underline) (with_pen (with_rendition sgr.Reset s.pen) s))
+      ∙ ap (λ (p : Attributes). actions_done f (on f saved replies stream (with_pen p s)) (link_action a.hyperlink ∷ [])) (all_set s.pen.hyperlink a foreground background underline)
+      ∙ link_does a.hyperlink (with_pen (settled_pen s.pen.hyperlink a foreground background underline) s)
+      ∙ ap (λ (p : Attributes). on f saved replies stream (with_pen p s)) (pen_is a foreground background underline e k b l)

@@ -1,4 +1,4 @@
--- What is sent for changes prints their texts.
+-- The encoding of changes prints their texts.
 use Rattle.std.proofs.Common.{◌≡◌, ℕ, Bool, true, false, List, [], ◌∷◌, ◌++◌, map, refl, sym, ap, subst, ◌∙◌}
 use Rattle.std.specs.Prelude.{◌==◌, ◌||◌, flat_map, Option, Some, None, IfSome, option_map, if◌then◌else◌}
 use Rattle.std.specs.Char.{is_ascii_control}
@@ -48,7 +48,7 @@ text_prints (b ∷ text) = by_test (is_ascii_control b) (text_prints text)
 
 -- ---- changes
 
--- what is sent, if something is, prints such bytes
+-- the actions, if there are any, print the bytes `run`
 abbrev Prints : List ℕ → Option (List StreamAction) → Type 0
 Prints run found = IfSome found (λ actions. prints_in actions ≡ run)
 

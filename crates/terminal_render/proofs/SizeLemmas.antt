@@ -1,4 +1,4 @@
--- How many bytes are sent for a change at most.
+-- An upper bound on the bytes that encode a change.
 use Rattle.std.proofs.Common.{◌≡◌, ℕ, ◌+◌, ◌*◌, ◌^◌, ◌<◌, ◌≤◌, Bool, true, false, List, [], ◌∷◌, ◌++◌, length, map, refl, sym, ap, subst, ◌∙◌, arith, length-append}
 use Rattle.std.proofs.lemmas.Bool.Decides.{nat_tests}
 use Rattle.std.specs.Prelude.{◌==◌, ◌&&◌, ◌||◌, min, Option, None, Some, IfSome, option_map, option_and_then}
@@ -136,33 +136,33 @@ module _ (short : ActionsAreShort) (titles : (text : List ℕ) → TextsTakeSix 
   sets_short [] h = omega arith
   sets_short (value ∷ values) h = omega (arith, total_append (set value) (flat_map set values), set_short value h.0, sets_short values h.1)
 
-  pen_short : (a : Attributes) (prefix rear line : ColorSpec) → IsColour prefix → IsColour rear → IsColour line → total (pen_actions (settings a prefix rear line) a.hyperlink) ≤ link_size a.hyperlink + 320
-  pen_short a prefix rear line f r l =
-      let twelve : length (settings a prefix rear line) ≡ 12 = refl in
-      omega (arith, one_short (codec.sgr sgr.Reset) tt, total_append (flat_map set (settings a prefix rear line)) (link_action a.hyperlink ∷ []), sets_short (settings a prefix rear line) (settings_set a prefix rear line f r l), link_short a.hyperlink, twelve)
+  pen_short : (a : Attributes) (foreground background underline : ColorSpec) → IsColour foreground → IsColour background → IsColour underline → total (pen_actions (settings a foreground background underline) a.hyperlink) ≤ link_size a.hyperlink + 320
+  pen_short a foreground background underline f r l =
+      let twelve : length (settings a foreground background underline) ≡ 12 = refl in
+      omega (arith, one_short (codec.sgr sgr.Reset) tt, total_append (flat_map set (settings a foreground background underline)) (link_action a.hyperlink ∷ []), sets_short (settings a foreground background underline) (settings_set a foreground background underline f r l), link_short a.hyperlink, twelve)
 
   pen_is : (a : Attributes) → HaveColors a → Within (link_size a.hyperlink + 320) (pen_rendering a)
   unfolding pen_rendering
   pen_is a h = by_test (lacks_encoding a) refl
     where
-      by_line : (prefix rear : ColorSpec) → IsColour prefix → IsColour rear → (found : Option ColorSpec) → IfSome found IsColour
-          → Within (link_size a.hyperlink + 320) (option_map (λ values. pen_actions values a.hyperlink) (option_map (λ line. settings a prefix rear line) found))
-      by_line prefix rear f r None l = tt
-      by_line prefix rear f r (Some line) l = pen_short a prefix rear line f r l
+      by_underline : (foreground background : ColorSpec) → IsColour foreground → IsColour background → (found : Option ColorSpec) → IfSome found IsColour
+          → Within (link_size a.hyperlink + 320) (option_map (λ values. pen_actions values a.hyperlink) (option_map (λ underline. settings a foreground background underline) found))
+      by_underline foreground background f r None l = tt
+      by_underline foreground background f r (Some underline) l = pen_short a foreground background underline f r l
 
-      by_rear : (prefix : ColorSpec) → IsColour prefix → (found : Option ColorSpec) → IfSome found IsColour
-          → Within (link_size a.hyperlink + 320) (option_map (λ values. pen_actions values a.hyperlink) (option_and_then (λ rear. option_map (λ line. settings a prefix rear line) (colour_setting a.underline_color)) found))
-      by_rear prefix f None r = tt
-      by_rear prefix f (Some rear) r = by_line prefix rear f r (colour_setting a.underline_color) (color_is a.underline_color h.2)
+      by_background : (foreground : ColorSpec) → IsColour foreground → (found : Option ColorSpec) → IfSome found IsColour
+          → Within (link_size a.hyperlink + 320) (option_map (λ values. pen_actions values a.hyperlink) (option_and_then (λ background. option_map (λ underline. settings a foreground background underline) (colour_setting a.underline_color)) found))
+      by_background foreground f None r = tt
+      by_background foreground f (Some background) r = by_underline foreground background f r (colour_setting a.underline_color) (color_is a.underline_color h.2)
 
-      by_prefix : (found : Option ColorSpec) → IfSome found IsColour
-          → Within (link_size a.hyperlink + 320) (option_map (λ values. pen_actions values a.hyperlink) (option_and_then (λ prefix. option_and_then (λ rear. option_map (λ line. settings a prefix rear line) (colour_setting a.underline_color)) (colour_setting a.background)) found))
-      by_prefix None f = tt
-      by_prefix (Some prefix) f = by_rear prefix f (colour_setting a.background) (color_is a.background h.1)
+      by_foreground : (found : Option ColorSpec) → IfSome found IsColour
+          → Within (link_size a.hyperlink + 320) (option_map (λ values. pen_actions values a.hyperlink) (option_and_then (λ foreground. option_and_then (λ background. option_map (λ underline. settings a foreground background underline) (colour_setting a.underline_color)) (colour_setting a.background)) found))
+      by_foreground None f = tt
+      by_foreground (Some foreground) f = by_background foreground f (colour_setting a.background) (color_is a.background h.1)
 
       by_test : (b : Bool) → lacks_encoding a ≡ b → Within (link_size a.hyperlink + 320) (pen_rendering a)
       by_test true e = rw e tt
-      by_test false e = rw e (by_prefix (colour_setting a.foreground) (color_is a.foreground h.0))
+      by_test false e = rw e (by_foreground (colour_setting a.foreground) (color_is a.foreground h.0))
 
   title_is : (text : List ℕ) → Within (length text + 320) (title_rendering text)
   unfolding title_rendering
@@ -219,26 +219,26 @@ module _ (short : ActionsAreShort) (titles : (text : List ℕ) → TextsTakeSix 
   moves_short [] h = omega arith
   moves_short (move ∷ remaining) h = omega (arith, one_short (codec.cursor move) h.0, moves_short remaining h.1)
 
-  by_few : (move : ℕ → Cursor) (count : ℕ) → length (move_by move count) ≤ 1
-  by_few move count = by_test (count == 0) refl
+  move_bound : (move : ℕ → Cursor) (count : ℕ) → length (move_by move count) ≤ 1
+  move_bound move count = by_test (count == 0) refl
     where
       by_test : (b : Bool) → (count == 0) ≡ b → length (move_by move count) ≤ 1
       by_test true e = rw e (omega arith)
       by_test false e = rw e (omega arith)
 
-  few_moves : (column row : Way) → IfSome (moves column row) (λ cursors. length cursors ≤ 2)
+  moves_bound : (column row : Way) → IfSome (moves column row) (λ cursors. length cursors ≤ 2)
   unfolding moves
-  few_moves (At column) (At row) = omega arith
-  few_moves (At column) (Back rows) = omega (arith, length-append (move_by cursor.Up rows) (cursor.CharacterAbsolute column ∷ []), by_few cursor.Up rows)
-  few_moves (At column) (On rows) = omega (arith, length-append (move_by cursor.Down rows) (cursor.CharacterAbsolute column ∷ []), by_few cursor.Down rows)
-  few_moves (On columns) (At row) = omega (arith, length-append (move_by cursor.Right columns) (cursor.LinePositionAbsolute row ∷ []), by_few cursor.Right columns)
-  few_moves (On columns) (Back rows) = omega (arith, length-append (move_by cursor.Right columns) (move_by cursor.Up rows), by_few cursor.Right columns, by_few cursor.Up rows)
-  few_moves (On columns) (On rows) = by_test (columns == 0 && rows == 0) refl
+  moves_bound (At column) (At row) = omega arith
+  moves_bound (At column) (Back rows) = omega (arith, length-append (move_by cursor.Up rows) (cursor.CharacterAbsolute column ∷ []), move_bound cursor.Up rows)
+  moves_bound (At column) (On rows) = omega (arith, length-append (move_by cursor.Down rows) (cursor.CharacterAbsolute column ∷ []), move_bound cursor.Down rows)
+  moves_bound (On columns) (At row) = omega (arith, length-append (move_by cursor.Right columns) (cursor.LinePositionAbsolute row ∷ []), move_bound cursor.Right columns)
+  moves_bound (On columns) (Back rows) = omega (arith, length-append (move_by cursor.Right columns) (move_by cursor.Up rows), move_bound cursor.Right columns, move_bound cursor.Up rows)
+  moves_bound (On columns) (On rows) = by_test (columns == 0 && rows == 0) refl
     where
       by_test : (b : Bool) → (columns == 0 && rows == 0) ≡ b → IfSome (moves (On columns) (On rows)) (λ cursors. length cursors ≤ 2)
       by_test true e = rw e tt
-      by_test false e = rw e (omega (arith, length-append (move_by cursor.Right columns) (move_by cursor.Down rows), by_few cursor.Right columns, by_few cursor.Down rows))
-  few_moves (Back columns) row = tt
+      by_test false e = rw e (omega (arith, length-append (move_by cursor.Right columns) (move_by cursor.Down rows), move_bound cursor.Right columns, move_bound cursor.Down rows))
+  moves_bound (Back columns) row = tt
 
   found_moves : (found : Option (List Cursor)) → IfSome found AreMoves → IfSome found (λ cursors. length cursors ≤ 2) → Within (0 + 320) (option_map (map moved) found)
   found_moves None h k = tt
@@ -250,7 +250,7 @@ module _ (short : ActionsAreShort) (titles : (text : List ℕ) → TextsTakeSix 
     where
       by_test : (t : Bool) → is_past width x ≡ t → Within (0 + 320) (option_map (map moved) (position_moves width height x y))
       by_test true e = rw e tt
-      by_test false e = rw e (found_moves (moves (way_of width x) (way_of height y)) (moves_are (way_of width x) (way_of height y) (way_is width x a b) (way_is height y c d)) (few_moves (way_of width x) (way_of height y)))
+      by_test false e = rw e (found_moves (moves (way_of width x) (way_of height y)) (moves_are (way_of width x) (way_of height y) (way_is width x a b) (way_is height y c d)) (moves_bound (way_of width x) (way_of height y)))
 
   scroll_is : (scroll : ℕ → Edit) (height first size count : ℕ) → ((n : ℕ) → IsCoordinate n → codec_writable.IsWritableEdit (scroll n)) → 0 < height → height < 2 ^ 32 → Within (0 + 320) (scroll_rendering scroll height first size count)
   unfolding scroll_rendering

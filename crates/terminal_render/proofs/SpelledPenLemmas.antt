@@ -53,16 +53,16 @@ encoded_color attribute.Default h = tt
 settings_some : (a : Attributes) → IsSpelledPen a → pen_settings a ≢ None
 settings_some a p =
     then_some _ (colour_setting a.foreground) (setting_some a.foreground p.foreground)
-    (λ prefix. then_some _ (colour_setting a.background) (setting_some a.background p.background)
-    (λ back. map_some (λ line. settings a prefix back line) (colour_setting a.underline_color) (setting_some a.underline_color p.underline)))
+    (λ foreground. then_some _ (colour_setting a.background) (setting_some a.background p.background)
+    (λ background. map_some (λ underline. settings a foreground background underline) (colour_setting a.underline_color) (setting_some a.underline_color p.underline)))
 
 pub pen_some : (a : Attributes) → IsSpelledPen a → pen_rendering a ≢ None
 unfolding pen_rendering
 pen_some a p =
-    let said : lacks_encoding a ≡ false = λ i. p.unwrapped i || not (is_output (p.output i)) || not (p.link i) in
-    subst (λ b. (if b then None else option_map (λ values. pen_actions values a.hyperlink) (pen_settings a)) ≢ None) (sym said) (map_some (λ values. pen_actions values a.hyperlink) (pen_settings a) (settings_some a p))
+    let has_encoding : lacks_encoding a ≡ false = λ i. p.unwrapped i || not (is_output (p.output i)) || not (p.link i) in
+    subst (λ b. (if b then None else option_map (λ values. pen_actions values a.hyperlink) (pen_settings a)) ≢ None) (sym has_encoding) (map_some (λ values. pen_actions values a.hyperlink) (pen_settings a) (settings_some a p))
 
--- each of three is there where what is made of them is
+-- each of three options has a value if the value made of all three exists
 record AreSome (f g h : Option ColorSpec) : Type 0 where
   first : f ≢ None
   second : g ≢ None
@@ -95,13 +95,13 @@ some_pen a k h =
     (λ e.
     let found = subst (λ b. (if b then None else option_map (λ values. pen_actions values a.hyperlink) (pen_settings a)) ≢ None) e h in
     let colors = three_some (settings a) (colour_setting a.foreground) (colour_setting a.background) (colour_setting a.underline_color) (mapped_some (λ values. pen_actions values a.hyperlink) (pen_settings a) found) in
-    said a e (setting_spelled a.foreground k.0 colors.first) (setting_spelled a.background k.1 colors.second) (setting_spelled a.underline_color k.2 colors.third))
+    spelled_pen a e (setting_spelled a.foreground k.0 colors.first) (setting_spelled a.background k.1 colors.second) (setting_spelled a.underline_color k.2 colors.third))
   where
-    said : (a : Attributes) → lacks_encoding a ≡ false → IsSpelledColor a.foreground → IsSpelledColor a.background → IsSpelledColor a.underline_color → IsSpelledPen a
-    said a e prefix back line =
+    spelled_pen : (a : Attributes) → lacks_encoding a ≡ false → IsSpelledColor a.foreground → IsSpelledColor a.background → IsSpelledColor a.underline_color → IsSpelledPen a
+    spelled_pen a e foreground background underline =
         let both = or_parts (a.wrapped || not (is_output a.semantic_type)) (not (is_carried a.hyperlink)) e in
         let first = or_parts a.wrapped (not (is_output a.semantic_type)) both.0 in
-        record { unwrapped = first.0; output = output_is a.semantic_type first.1; link = carried_is (is_carried a.hyperlink) both.1; foreground = prefix; background = back; underline = line }
+        record { unwrapped = first.0; output = output_is a.semantic_type first.1; link = carried_is (is_carried a.hyperlink) both.1; foreground = foreground; background = background; underline = underline }
 
 pub pens_are_rendered : (a : Attributes) → HaveColors a → (IsSpelledPen a ↔ (pen_rendering a ≢ None))
 pens_are_rendered a k = (pen_some a, some_pen a k)

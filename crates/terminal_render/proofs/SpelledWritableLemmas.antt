@@ -1,4 +1,4 @@
--- What is sent for changes that have an encoding reads back from its bytes.
+-- The encoding of changes that each have one reads back from its bytes.
 use Rattle.std.proofs.Common.{◌≡◌, ℕ, List, [], ◌∷◌, sym, subst}
 use Rattle.std.specs.Prelude.{Some}
 use Rattle.cell_base.specs.ScreenSize.{IsScreenSize}

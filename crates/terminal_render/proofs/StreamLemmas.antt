@@ -1,4 +1,4 @@
--- What a stream prints, and what it asks for, has an encoding.
+-- The texts that a stream prints, and the requests that it makes, have an encoding.
 use Rattle.std.proofs.Common.{ℕ, zero, suc, inr, Bool, true, false, List, [], ◌∷◌, ◌++◌, length, drop, map, fold, refl, arith}
 use Rattle.std.specs.Prelude.{⊤, ◌==◌, ◌||◌, Option, Some, None, filter, nat_lt, if◌then◌else◌}
 use Rattle.std.specs.Char.{IsScalar}

@@ -1,4 +1,4 @@
--- Texts without U+0080 to U+009F: what is joined of them is one, and so is each cluster of those without C0 controls and DEL.
+-- Texts without U+0080 to U+009F: two of them joined are one, and so is each cluster of one without C0 controls and DEL.
 use Rattle.std.proofs.Common.{◌≡◌, ℕ, zero, suc, ◌+◌, ◌/◌, ◌%◌, ◌<◌, ◌≤◌, inl, inr, Bool, true, false, List, [], ◌∷◌, ◌++◌, length, map, refl, sym, ap, subst, ◌∙◌, arith, append_assoc, append-nil, length-append}
 use Rattle.std.specs.Prelude.{⊤, ◌⊎◌, ◌==◌, ◌&&◌, ◌||◌, not, nat_le, All, encode_utf8, encode_utf8_all, if◌then◌else◌}
 use Rattle.std.specs.Char.{IsScalar, is_ascii_control}
@@ -52,7 +52,7 @@ last_false false b = refl
 two_free : (c : ℕ) → 160 ≤ c → c < 2048 → is_c1 (192 + c / 64) (128 + c % 64) ≡ false
 two_free c g l = grind (arith, nat_tests)
 
--- other than these controls
+-- the character is none of U+0080 to U+009F
 abbrev IsNoC1 : ℕ → Type 0
 IsNoC1 c = (c < 128) ⊎ (0x9F < c)
 
@@ -89,7 +89,7 @@ printable_no_c1 : (c : ℕ) → IsPrintable c → IsNoC1 c
 printable_no_c1 c (inl low) = let h = low.1 in inl (omega arith)
 printable_no_c1 c (inr high) = inr high
 
--- before more bytes
+-- after characters that hold none of these controls, a text holds one just where the rest does
 characters_free : (cs rest : List ℕ) → scalars cs ≡ true → holds_c1 (encode_utf8_all cs) ≡ false → holds_c1 (encode_utf8_all cs ++ rest) ≡ holds_c1 rest
 characters_free [] rest s h = refl
 characters_free (c ∷ cs) rest s h =

@@ -1,4 +1,4 @@
--- The settings and the moves that are sent can be written.
+-- The settings and the moves of encodings are writable.
 use Rattle.std.proofs.Common.{◌≡◌, ℕ, ◌^◌, ◌<◌, Bool, true, false, List, [], ◌∷◌, ◌++◌, refl, arith}
 use Rattle.std.specs.Prelude.{⊤, ◌==◌, ◌&&◌, min, Option, None, Some, IfSome, pos, negsuc}
 use Rattle.std.proofs.lemmas.Bool.Decides.{nat_tests}

@@ -100,7 +100,7 @@ replay_size width_of (change ∷ cs) d h =
     let rest = replay_size width_of cs (effect width_of d change) (effect_is width_of d change h) in
     record { wide = rest.wide ∙ one.width; tall = rest.tall ∙ one.tall }
 
--- a screen into which changes turn another has its size
+-- a screen into which changes turn another screen has that screen's size
 turned_size : (width_of : List ℕ → ℕ) (cs : List ChangeValue) (s t : Screen) → IsDisplay (display_on s) → (replay width_of (display_on s) cs).screen ≡ t → HasSize t s
 turned_size width_of cs s t h e = subst (λ (x : Screen). HasSize x s) e (replay_size width_of cs (display_on s) h)
 
@@ -114,11 +114,11 @@ step_size request state h =
     let d = display_on_is state h in
     turned_size (λ text. 1) (changes_of request state) state.screen (step_of request state).screen d (action_turns (λ text. 1) request state (display_on state.screen) d refl).screen
 
--- at another size of the same numbers
+-- changes that have encodings at one screen have them at another screen of the same width and height
 pub moved_has : (s t : Screen) (changes : List ChangeValue) → HasSize s t → HaveEncodings s.width (height s) changes → HaveEncodings t.width (height t) changes
 moved_has s t changes size h = subst (λ n. HaveEncodings t.width n changes) size.tall (subst (λ n. HaveEncodings n (height s) changes) size.wide h)
 
--- ---- what is logged
+-- ---- the steps that are logged
 
 -- a change that is logged has an encoding
 abbrev pub IsEncoded : ℕ → ℕ → LogStep → Type 0
@@ -151,13 +151,13 @@ request_has (Some function) state h f p =
 -- at the size of the screen before the event
 pub event_encoded : (width_of : List ℕ → ℕ) (v : View) (event : Event) → IsView v → IsSpelledView v → IsSpelledEvent event → AreEncoded v.state.screen.width (height v.state.screen) (event_logged width_of v event)
 event_encoded width_of v (Act action) h p q =
-    let sent = IsEncoded v.state.screen.width (height v.state.screen) in
+    let encoded = IsEncoded v.state.screen.width (height v.state.screen) in
     let own = settled width_of v in
     let changes = changes_of (function_of action) own.state in
     let has = request_has (function_of action) own.state (settled_is width_of v h).lawful q.1 (settled_spelled width_of v h p).state in
     cond_both (is_print action) [] (run_logged v ++ map Logged changes) (AreEncoded v.state.screen.width (height v.state.screen)) (λ e. tt)
     (λ e.
-    all_joined sent (run_logged v) (map Logged changes) (run_encoded v.state.screen.width (height v.state.screen) v h p)
+    all_joined encoded (run_logged v) (map Logged changes) (run_encoded v.state.screen.width (height v.state.screen) v h p)
     (logged_encoded v.state.screen.width (height v.state.screen) changes (moved_has own.state.screen v.state.screen changes (settled_size width_of v h) has)))
 event_encoded width_of v Looked h p q = run_encoded v.state.screen.width (height v.state.screen) v h p
 event_encoded width_of v (Resized width tall) h p q =

@@ -1,4 +1,4 @@
--- What is sent for a change has its effect.
+-- The encoding of a change has the effect of the change.
 use Rattle.std.proofs.Common.{◌≡◌, ℕ, ◌^◌, ◌<◌, Bool, true, false, List, [], ◌∷◌, refl, sym, ap, subst, ◌∙◌}
 use Rattle.std.specs.Prelude.{All, Option, None, Some, IfSome, option_map, option_and_then}
 use Rattle.text_clusters.specs.Controls.{holds_c1}
@@ -33,7 +33,7 @@ use Rattle.terminal_render.proofs.ScrollLemmas.{up_does, down_does}
 use Rattle.terminal_render.proofs.ClearLemmas.{line_does, screen_does, below_does}
 
 module _ (f : List ℕ → ℕ) (saved : Option SavedCursor) (replies : List ℕ) (stream : List ℕ) (d : Display) where
-  -- where a rendering stands, it makes a screen of the display's
+  -- the actions of a rendering, if there is one, lead from the display's screen to the screen `after`
   abbrev Makes : Option (List StreamAction) → Screen → Type 0
   Makes found after = IfSome found (λ actions. actions_done f (on f saved replies stream d.screen) actions ≡ on f saved replies stream after)
 
@@ -91,35 +91,35 @@ module _ (f : List ℕ → ℕ) (saved : Option SavedCursor) (replies : List ℕ
   attribute_makes (one.Background color) = background_makes color
   attribute_makes (one.Hyperlink link) = link_makes link
 
-  -- a colour that can be encoded is what its setting sets
-  told : (color : ColorAttribute) (c : ColorSpec) → colour_setting color ≡ Some c → attribute_of c ≡ color
-  told (attribute.TrueColorWithPaletteFallback color index) c e = cc
-  told (attribute.TrueColorWithDefaultFallback color) c e = let k : spec.TrueColor color ≡ c = cc in sym (ap attribute_of k)
-  told (attribute.PaletteIndex index) c e = let k : spec.PaletteIndex index ≡ c = cc in sym (ap attribute_of k)
-  told attribute.Default c e = let k : spec.Default ≡ c = cc in sym (ap attribute_of k)
+  -- a colour that has an encoding is the colour that its setting sets
+  setting_back : (color : ColorAttribute) (c : ColorSpec) → colour_setting color ≡ Some c → attribute_of c ≡ color
+  setting_back (attribute.TrueColorWithPaletteFallback color index) c e = cc
+  setting_back (attribute.TrueColorWithDefaultFallback color) c e = let k : spec.TrueColor color ≡ c = cc in sym (ap attribute_of k)
+  setting_back (attribute.PaletteIndex index) c e = let k : spec.PaletteIndex index ≡ c = cc in sym (ap attribute_of k)
+  setting_back attribute.Default c e = let k : spec.Default ≡ c = cc in sym (ap attribute_of k)
 
   pen_makes : (a : Attributes) → Makes (pen_rendering a) (effect f d (AllAttributes a)).screen
   unfolding pen_rendering
   pen_makes a = by_test (lacks_encoding a) refl
     where
-      by_line : lacks_encoding a ≡ false → (prefix back : ColorSpec) → colour_setting a.foreground ≡ Some prefix → colour_setting a.background ≡ Some back → (found : Option ColorSpec) → colour_setting a.underline_color ≡ found
-          → Makes (option_map (λ values. pen_actions values a.hyperlink) (option_map (λ line. settings a prefix back line) found)) (with_pen a d.screen)
-      by_line e prefix back k b None l = tt
-      by_line e prefix back k b (Some line) l = pen_does f saved replies stream a prefix back line d.screen e (told a.foreground prefix k) (told a.background back b) (told a.underline_color line l)
+      by_underline : lacks_encoding a ≡ false → (foreground background : ColorSpec) → colour_setting a.foreground ≡ Some foreground → colour_setting a.background ≡ Some background → (found : Option ColorSpec) → colour_setting a.underline_color ≡ found
+          → Makes (option_map (λ values. pen_actions values a.hyperlink) (option_map (λ underline. settings a foreground background underline) found)) (with_pen a d.screen)
+      by_underline e foreground background k b None l = tt
+      by_underline e foreground background k b (Some underline) l = pen_does f saved replies stream a foreground background underline d.screen e (setting_back a.foreground foreground k) (setting_back a.background background b) (setting_back a.underline_color underline l)
 
-      by_back : lacks_encoding a ≡ false → (prefix : ColorSpec) → colour_setting a.foreground ≡ Some prefix → (found : Option ColorSpec) → colour_setting a.background ≡ found
-          → Makes (option_map (λ values. pen_actions values a.hyperlink) (option_and_then (λ back. option_map (λ line. settings a prefix back line) (colour_setting a.underline_color)) found)) (with_pen a d.screen)
-      by_back e prefix k None b = tt
-      by_back e prefix k (Some back) b = by_line e prefix back k b (colour_setting a.underline_color) refl
+      by_background : lacks_encoding a ≡ false → (foreground : ColorSpec) → colour_setting a.foreground ≡ Some foreground → (found : Option ColorSpec) → colour_setting a.background ≡ found
+          → Makes (option_map (λ values. pen_actions values a.hyperlink) (option_and_then (λ background. option_map (λ underline. settings a foreground background underline) (colour_setting a.underline_color)) found)) (with_pen a d.screen)
+      by_background e foreground k None b = tt
+      by_background e foreground k (Some background) b = by_underline e foreground background k b (colour_setting a.underline_color) refl
 
-      by_prefix : lacks_encoding a ≡ false → (found : Option ColorSpec) → colour_setting a.foreground ≡ found
-          → Makes (option_map (λ values. pen_actions values a.hyperlink) (option_and_then (λ prefix. option_and_then (λ back. option_map (λ line. settings a prefix back line) (colour_setting a.underline_color)) (colour_setting a.background)) found)) (with_pen a d.screen)
-      by_prefix e None k = tt
-      by_prefix e (Some prefix) k = by_back e prefix k (colour_setting a.background) refl
+      by_foreground : lacks_encoding a ≡ false → (found : Option ColorSpec) → colour_setting a.foreground ≡ found
+          → Makes (option_map (λ values. pen_actions values a.hyperlink) (option_and_then (λ foreground. option_and_then (λ background. option_map (λ underline. settings a foreground background underline) (colour_setting a.underline_color)) (colour_setting a.background)) found)) (with_pen a d.screen)
+      by_foreground e None k = tt
+      by_foreground e (Some foreground) k = by_background e foreground k (colour_setting a.background) refl
 
       by_test : (b : Bool) → lacks_encoding a ≡ b → Makes (pen_rendering a) (effect f d (AllAttributes a)).screen
       by_test true e = rw e tt
-      by_test false e = rw e (by_prefix e (colour_setting a.foreground) refl)
+      by_test false e = rw e (by_foreground e (colour_setting a.foreground) refl)
 
   visibility_makes : (v : Visibility) → Makes (rendering (CursorVisibility v) d.screen.width (height d.screen)) (effect f d (CursorVisibility v)).screen
   unfolding function_of

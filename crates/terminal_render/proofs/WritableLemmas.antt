@@ -1,4 +1,4 @@
--- What is sent for a change is a writable list.
+-- The rendering of a change is a writable list of actions.
 use Rattle.std.proofs.Common.{◌≡◌, ℕ, ◌^◌, ◌<◌, inl, Bool, true, false, List, [], ◌∷◌, ◌++◌, map, refl, subst, ◌∙◌, arith}
 use Rattle.std.specs.Prelude.{⊤, ◌==◌, ◌||◌, not, min, Option, None, Some, IfSome, option_map, option_and_then}
 use Rattle.std.specs.List.{flat_map, list_all, list_any}
@@ -135,7 +135,7 @@ title_is text u = by_test (is_plain_text text) refl
 
 -- ---- links
 
--- plain texts round a byte below 80h that is no control
+-- two plain texts, with a byte below 80h between them that is no control, are a plain text
 joint_plain : (xs : List ℕ) (c : ℕ) (ys : List ℕ) → c < 128 → is_ascii_control c ≡ false → LacksControls xs → LacksControls ys → LacksControls (xs ++ c ∷ ys)
 joint_plain xs c ys l e h k = record {
   no_c0 = list_any-append is_ascii_control xs (c ∷ ys) ∙ or_from (list_any is_ascii_control xs) (list_any is_ascii_control (c ∷ ys)) h.no_c0 (or_from (is_ascii_control c) (list_any is_ascii_control ys) e k.no_c0);
@@ -197,10 +197,10 @@ module _ (back : WritableActionsReadBack) (prefixes : WritableTextsAreSequences)
   link_alone : (link : Option Link) → is_carried link ≡ true → AreAlone (link_action link ∷ [])
   link_alone link e = (link_writable link e, tt)
 
-  pen_alone : (a : Attributes) (prefix rear line : ColorSpec) → lacks_encoding a ≡ false → IsColour prefix → IsColour rear → IsColour line → AreAlone (pen_actions (settings a prefix rear line) a.hyperlink)
-  pen_alone a prefix rear line e f r l =
+  pen_alone : (a : Attributes) (foreground background underline : ColorSpec) → lacks_encoding a ≡ false → IsColour foreground → IsColour background → IsColour underline → AreAlone (pen_actions (settings a foreground background underline) a.hyperlink)
+  pen_alone a foreground background underline e f r l =
       let carried : is_carried a.hyperlink ≡ true = is_on (is_carried a.hyperlink) (or_parts (a.wrapped || not (is_output a.semantic_type)) (not (is_carried a.hyperlink)) e).1 in
-      (sequence (codec.sgr sgr.Reset) tt, alone_append (flat_map set (settings a prefix rear line)) (link_action a.hyperlink ∷ []) (sets_alone (settings a prefix rear line) (settings_set a prefix rear line f r l)) (link_alone a.hyperlink carried))
+      (sequence (codec.sgr sgr.Reset) tt, alone_append (flat_map set (settings a foreground background underline)) (link_action a.hyperlink ∷ []) (sets_alone (settings a foreground background underline) (settings_set a foreground background underline f r l)) (link_alone a.hyperlink carried))
     where
       is_on : (b : Bool) → not b ≡ false → b ≡ true
       is_on true e = refl
@@ -210,24 +210,24 @@ module _ (back : WritableActionsReadBack) (prefixes : WritableTextsAreSequences)
   unfolding pen_rendering
   pen_is a h = by_test (lacks_encoding a) refl
     where
-      by_line : lacks_encoding a ≡ false → (prefix rear : ColorSpec) → IsColour prefix → IsColour rear → (found : Option ColorSpec) → IfSome found IsColour
-          → Alone (option_map (λ values. pen_actions values a.hyperlink) (option_map (λ line. settings a prefix rear line) found))
-      by_line e prefix rear f r None l = tt
-      by_line e prefix rear f r (Some line) l = pen_alone a prefix rear line e f r l
+      by_underline : lacks_encoding a ≡ false → (foreground background : ColorSpec) → IsColour foreground → IsColour background → (found : Option ColorSpec) → IfSome found IsColour
+          → Alone (option_map (λ values. pen_actions values a.hyperlink) (option_map (λ underline. settings a foreground background underline) found))
+      by_underline e foreground background f r None l = tt
+      by_underline e foreground background f r (Some underline) l = pen_alone a foreground background underline e f r l
 
-      by_rear : lacks_encoding a ≡ false → (prefix : ColorSpec) → IsColour prefix → (found : Option ColorSpec) → IfSome found IsColour
-          → Alone (option_map (λ values. pen_actions values a.hyperlink) (option_and_then (λ rear. option_map (λ line. settings a prefix rear line) (colour_setting a.underline_color)) found))
-      by_rear e prefix f None r = tt
-      by_rear e prefix f (Some rear) r = by_line e prefix rear f r (colour_setting a.underline_color) (color_is a.underline_color h.2)
+      by_background : lacks_encoding a ≡ false → (foreground : ColorSpec) → IsColour foreground → (found : Option ColorSpec) → IfSome found IsColour
+          → Alone (option_map (λ values. pen_actions values a.hyperlink) (option_and_then (λ background. option_map (λ underline. settings a foreground background underline) (colour_setting a.underline_color)) found))
+      by_background e foreground f None r = tt
+      by_background e foreground f (Some background) r = by_underline e foreground background f r (colour_setting a.underline_color) (color_is a.underline_color h.2)
 
-      by_prefix : lacks_encoding a ≡ false → (found : Option ColorSpec) → IfSome found IsColour
-          → Alone (option_map (λ values. pen_actions values a.hyperlink) (option_and_then (λ prefix. option_and_then (λ rear. option_map (λ line. settings a prefix rear line) (colour_setting a.underline_color)) (colour_setting a.background)) found))
-      by_prefix e None f = tt
-      by_prefix e (Some prefix) f = by_rear e prefix f (colour_setting a.background) (color_is a.background h.1)
+      by_foreground : lacks_encoding a ≡ false → (found : Option ColorSpec) → IfSome found IsColour
+          → Alone (option_map (λ values. pen_actions values a.hyperlink) (option_and_then (λ foreground. option_and_then (λ background. option_map (λ underline. settings a foreground background underline) (colour_setting a.underline_color)) (colour_setting a.background)) found))
+      by_foreground e None f = tt
+      by_foreground e (Some foreground) f = by_background e foreground f (colour_setting a.background) (color_is a.background h.1)
 
       by_test : (b : Bool) → lacks_encoding a ≡ b → Alone (pen_rendering a)
       by_test true e = rw e tt
-      by_test false e = rw e (by_prefix e (colour_setting a.foreground) (color_is a.foreground h.0))
+      by_test false e = rw e (by_foreground e (colour_setting a.foreground) (color_is a.foreground h.0))
 
   abbrev attribute_rendering : AttributeValue → Option (List StreamAction)
   attribute_rendering change = option_map (λ action. action ∷ []) (attribute_action change)

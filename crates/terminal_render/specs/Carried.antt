@@ -1,4 +1,4 @@
--- What the laws say of the bytes of actions that are sent: a stream carries them.
+-- What the laws say of the bytes of actions that encode changes: a stream carries them.
 use Rattle.std.specs.Prelude.{◌≡◌, ℕ, ◌≤◌, ⊤, List, Some}
 use Rattle.std.specs.Str.{IsUtf8}
 use Rattle.cell_base.specs.declared.color.ColorAttribute.{ColorAttribute}
@@ -39,7 +39,7 @@ IsChange (ClearToEndOfLine color) = IsColor color
 IsChange (ClearToEndOfScreen color) = IsColor color
 IsChange _ = ⊤
 
--- what is sent for a change is a list of actions that reads back from its bytes
+-- the encoding of a change is a list of actions that reads back from its bytes
 abbrev pub RenderingsAreWritable : Type 0
 RenderingsAreWritable =
     (change : ChangeValue) (width height : ℕ) (actions : List StreamAction) → IsChange change

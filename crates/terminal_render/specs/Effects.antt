@@ -1,4 +1,4 @@
--- What the laws say of actions that are sent: they do to the screen what the change does, and nothing is held
+-- What the laws say of actions that encode a change: they do to the screen what the change does, and nothing is held
 -- them.
 use Rattle.std.specs.Prelude.{◌≡◌, ℕ, ◌<◌, ◌^◌, List, [], ◌∷◌, ◌++◌, map, fold, Some}
 use Rattle.cell_base.specs.Screen.{height}
@@ -23,7 +23,7 @@ abbrev pub with_change : (List ℕ → ℕ) → View → Display → ChangeValue
 with_change width_of view display change =
     record view { state = record view.state { screen = (effect width_of display change).screen } }
 
--- a terminal that can be sent changes: its state is lawful, its width and its height are less than 2^32, and no run is
+-- a terminal that can take changes: its state is lawful, its width and its height are less than 2^32, and no run is
 -- held
 pub record IsReady (view : View) : Type 0 where
   pub lawful : IsState view.state
@@ -31,7 +31,7 @@ pub record IsReady (view : View) : Type 0 where
   pub height : height view.state.screen < 2 ^ 32
   pub run : view.held ≡ []
 
--- what is sent for a change has its effect: on the screen of a terminal that is ready what the change has on any
+-- the encoding of a change has its effect: on the screen of a terminal that is ready what the change has on any
 -- display of that screen, and no other; the saved cursor and the replies stay, and no run is held
 abbrev pub RenderingsHaveTheEffect : Type 0
 RenderingsHaveTheEffect =

@@ -1,4 +1,4 @@
--- How many bytes are sent for changes at most, and what they print.
+-- How many bytes encode changes at most, and what they print.
 use Rattle.std.specs.Prelude.{ℕ, ◌+◌, ◌*◌, ◌≤◌, not, ◌==◌, ◌||◌, IfSome, List, [], ◌∷◌, length, flat_map, sum_by}
 use Rattle.std.specs.Prelude.{if◌then◌else◌}
 use Rattle.std.specs.List.{AllByRecursion, list_all}
@@ -10,7 +10,7 @@ use Rattle.escape_stream.specs.StreamText.{stream_text}
 use Rattle.terminal_render.specs.Rendering.{rendering}
 use Rattle.terminal_render.specs.Sizes.{carried_size}
 
--- the most bytes sent for a change: for a text twice its bytes, or one more than it has where it holds no C0 control
+-- the most bytes that encode a change: for a text twice its bytes, or one more than it has where it holds no C0 control
 -- and no DEL; for any other change 320 besides its title, or its link's parameters and URI
 abbrev pub encoded_size : ChangeValue → ℕ
 encoded_size (Text text) = if list_all (λ b. not (is_ascii_control b)) text then length text + 1 else 2 * length text
@@ -24,7 +24,7 @@ abbrev pub own_size : ChangeValue → ℕ
 own_size (Text text) = length text
 own_size change = carried_size change
 
--- at most 320 bytes beside those are sent for a change to a terminal of a width and a height
+-- at most 320 bytes beside those encode a change for a terminal of a width and a height
 abbrev pub IsShort : ℕ → ℕ → ChangeValue → Type 0
 IsShort width height change =
     IfSome (rendering change width height) (λ actions. length (stream_text actions) ≤ own_size change + 320)

@@ -1,4 +1,4 @@
--- What is sent for changes in turn.
+-- The encodings of changes in turn.
 use Rattle.std.specs.Prelude.{◌≡◌, ℕ, List, [], ◌∷◌, ◌++◌, Option, Some, option_map, option_and_then}
 use Rattle.cell_base.specs.Screen.{height}
 use Rattle.screen_change.specs.ChangeValue.{ChangeValue}

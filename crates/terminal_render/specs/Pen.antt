@@ -90,12 +90,12 @@ unless_default setting color = Some (setting color)
 
 -- what is set of some attributes with these colours: foreground, background and underline colour
 abbrev pub settings : Attributes → ColorSpec → ColorSpec → ColorSpec → List (Option Sgr)
-settings a prefix back line =
+settings a foreground background underline =
     unless_normal a.intensity ∷ unless_none a.underline ∷ unless_steady a.blink ∷ unless_off sgr.Italic a.italic
     ∷ unless_off sgr.Inverse a.reverse ∷ unless_off sgr.StrikeThrough a.strikethrough
     ∷ unless_off sgr.Invisible a.invisible
-    ∷ unless_off sgr.Overline a.overline ∷ unless_base_line a.vertical_align ∷ unless_default sgr.Foreground prefix
-    ∷ unless_default sgr.Background back ∷ unless_default sgr.UnderlineColor line ∷ []
+    ∷ unless_off sgr.Overline a.overline ∷ unless_base_line a.vertical_align ∷ unless_default sgr.Foreground foreground
+    ∷ unless_default sgr.Background background ∷ unless_default sgr.UnderlineColor underline ∷ []
 
 -- none, or that one
 abbrev pub set : Option Sgr → List StreamAction
@@ -119,12 +119,13 @@ lacks_encoding a = a.wrapped || not (is_output a.semantic_type) || not (is_carri
 abbrev pub pen_settings : Attributes → Option (List (Option Sgr))
 pen_settings a =
     option_and_then
-    (λ prefix. option_and_then
-    (λ back. option_map (λ line. settings a prefix back line) (colour_setting a.underline_color))
+    (λ foreground. option_and_then
+    (λ background. option_map (λ line. settings a foreground background line) (colour_setting a.underline_color))
     (colour_setting a.background)) (colour_setting a.foreground)
 
 unfoldable pub pen_rendering : Attributes → Option (List StreamAction)
-pen_rendering a = if lacks_encoding a then None else option_map (λ values. pen_actions values a.hyperlink) (pen_settings a)
+pen_rendering a =
+    if lacks_encoding a then None else option_map (λ values. pen_actions values a.hyperlink) (pen_settings a)
 
 -- ---- clears: blanks of the pen's background (ED, EL), so a plain pen on the colour is set before them
 

@@ -1,4 +1,4 @@
--- Positions as moves of the cursor. Columns and rows count from 0, and in what is sent from 1.
+-- Positions as moves of the cursor. Columns and rows count from 0, and in sequences from 1.
 use Rattle.std.specs.Prelude.{ℕ, ◌+◌, ◌-◌, Bool, false, ◌&&◌, ◌==◌, nat_le, min, pos, negsuc, List, [], ◌∷◌, ◌++◌}
 use Rattle.std.specs.Prelude.{Option, Some, None, if◌then◌else◌}
 use Rattle.cell_base.specs.declared.attributes.Position.{Position}

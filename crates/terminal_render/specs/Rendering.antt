@@ -1,4 +1,4 @@
--- What is sent for a change, so that a terminal of a size does to its screen what the change does.
+-- The encoding of a change: actions that do to the screen of a terminal of some size what the change does.
 use Rattle.std.specs.Prelude.{ℕ, Bool, ◌&&◌, ◌==◌, nat_le, min, List, [], ◌∷◌, ◌++◌, map, Option, Some, None}
 use Rattle.std.specs.Prelude.{option_map, if◌then◌else◌}
 use Rattle.cell_base.specs.declared.attributes.CursorVisibility.{CursorVisibility as Visibility}
@@ -43,8 +43,8 @@ abbrev pub visibility_mode : Visibility → Mode
 visibility_mode Visible = mode.SetDecPrivateMode (private.Code dec.ShowCursor)
 visibility_mode Hidden = mode.ResetDecPrivateMode (private.Code dec.ShowCursor)
 
--- The actions that are sent for a change to a terminal of a width and a height; none where nothing that can be sent
--- does what the change does.
+-- The actions that encode a change for a terminal of a width and a height; none where no actions do what the change
+-- does.
 abbrev pub rendering : ChangeValue → ℕ → ℕ → Option (List StreamAction)
 rendering (Text text) width height = text_rendering text
 rendering (Title text) width height = title_rendering text
@@ -67,6 +67,6 @@ rendering (CursorColor color) width height = None
 rendering (CursorShape shape) width height = None
 rendering (LineAttribute size) width height = None
 
--- what is sent, after other actions
+-- the encoding, after other actions
 abbrev pub appended : List StreamAction → Option (List StreamAction) → Option (List StreamAction)
 appended before found = option_map (λ actions. before ++ actions) found

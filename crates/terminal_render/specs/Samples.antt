@@ -5,7 +5,7 @@ use Rattle.screen_change.specs.ChangeValue.{ChangeValue}
 use Rattle.escape_stream.specs.StreamText.{stream_text}
 use Rattle.terminal_render.specs.Rendering.{rendering}
 
--- the bytes of what is sent for a change to a terminal of a width and a height
+-- the bytes that encode a change for a terminal of a width and a height
 abbrev pub bytes_for : ℕ → ℕ → ChangeValue → Option (List ℕ)
 bytes_for width height change = option_map stream_text (rendering change width height)
 

@@ -1,4 +1,4 @@
--- How many bytes are sent for a change at most.
+-- How many bytes encode a change at most.
 use Rattle.std.specs.Prelude.{◌≡◌, ℕ, ◌+◌, ◌*◌, ◌≤◌, false, List, length, Option, Some, None}
 use Rattle.cell_base.specs.AttributeValue as one
 use Rattle.cell_base.specs.AttributeValue.{AttributeValue}
@@ -28,7 +28,7 @@ carried_size (Attribute change) = attribute_size change
 carried_size (AllAttributes attributes) = link_size attributes.hyperlink
 carried_size _ = 0
 
--- beside those at most 320 bytes are sent for a change that is no text
+-- beside those at most 320 bytes encode a change that is no text
 abbrev pub RenderingsAreShort : Type 0
 RenderingsAreShort =
     (change : ChangeValue) (width height : ℕ) (actions : List StreamAction) → IsChange change

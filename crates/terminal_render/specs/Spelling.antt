@@ -141,7 +141,7 @@ IsLinePart _ = ⊤
 pub record HasEncoding (width height : ℕ) (change : ChangeValue) : Type 0 where
   pub of_code : IsChange change
   pub part : IsLinePart change
-  pub sent : rendering change width height ≢ None
+  pub encoded : rendering change width height ≢ None
 
 abbrev pub HaveEncodings : ℕ → ℕ → List ChangeValue → Type 0
 HaveEncodings width height [] = ⊤

@@ -12,7 +12,7 @@ use Rattle.terminal_render.specs.Links.{is_plain_text}
 abbrev pub run_actions : List ℕ → List StreamAction
 run_actions text = print_string text ∷ control 0 ∷ []
 
--- CR and LF are sent themselves (8.3.15 and 8.3.74); another control is shown as a space
+-- CR and LF are written as they are (8.3.15 and 8.3.74), any other control as a space
 abbrev pub part_actions : TextPart → List StreamAction
 part_actions (Plain text) = run_actions text
 part_actions (Control byte) = if byte == 13 || byte == 10 then control byte ∷ [] else run_actions space

@@ -19,7 +19,7 @@ use std::alloc::{AllocError, Global};
 use std::marker::Model;
 use std::rc::Rc;
 
-/// Actions in the order in which they are sent, lent from the changes that they are sent for.
+/// Actions in the order in which they are written, lent from the changes that they encode.
 #[derive(Drop)]
 pub(crate) struct Actions<'a> {
     list: Vec<BorrowedAction<'a>>,
@@ -132,8 +132,8 @@ impl<'a> Actions<'a> {
         ensures { IfOk result (λ actions. map value_of actions.items ≡ self.now) }
     {
         let mut actions = Vec::new(alloc);
-        for sent in &self.list {
-            actions.push(sent.to_action(alloc)?)?;
+        for action in &self.list {
+            actions.push(action.to_action(alloc)?)?;
         }
         Ok(actions)
     }
@@ -144,8 +144,8 @@ impl<'a> Actions<'a> {
         ensures ok { OnOk result (bytes.new.items ≡ bytes.old.items ++ stream_text self.now) }
         ensures prefix { take (length bytes.old.items) bytes.new.items ≡ bytes.old.items }
     {
-        for sent in &self.list {
-            sent.append_to(bytes)?;
+        for action in &self.list {
+            action.append_to(bytes)?;
         }
         Ok(())
     }

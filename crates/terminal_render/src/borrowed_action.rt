@@ -16,7 +16,7 @@ use escape_stream::{Action, ControlCode};
 use std::alloc::{AllocError, Global};
 use std::rc::Rc;
 
-/// An action that is sent for a change.
+/// An action that encodes a change.
 #[derive(Clone, Copy)]
 pub(crate) enum BorrowedAction<'a> {
     /// SGR.

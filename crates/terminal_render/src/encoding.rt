@@ -90,8 +90,8 @@ pub(crate) fn push_change<'a>(
     }
 }
 
-/// Appends the bytes of what is sent for changes in turn, each of which has an encoding: those that `encode` writes
-/// of the actions that `render` answers for each. They take no list of their own. Want of memory is the only refusal;
+/// Appends the encodings of changes in turn, each of which has one: the bytes that `encode` writes of the actions
+/// that `render` answers for each. They take no list of their own. Want of memory is the only refusal;
 /// `bytes` stay as they were then.
 pub fn append_encodings(
     alloc: Global,

@@ -59,8 +59,8 @@ pub fn logged_changes_have_encodings()
         (changes_in (event_logged width_of view event)) }
 {}
 
-/// What a stream prints holds no U+0080 to U+009F, and the SGRs, links and titles that it asks for can be
-/// sent.
+/// What a stream prints holds no U+0080 to U+009F, and the SGRs, links and titles that it asks for have an
+/// encoding.
 pub fn events_are_spelled()
     ensures { (stream : List ℕ) (history : History) → AreSpelledEvents (events stream history) }
 {
@@ -101,8 +101,7 @@ pub fn spelled_changes_are_rendered()
         → all_rendered changes width height ≢ None }
 {}
 
-/// And what is sent for them to a terminal of some columns and rows, less than 2^32 of each, reads back from
-/// its bytes.
+/// And their encodings for a terminal of less than 2^32 columns and rows read back from their bytes.
 pub fn spelled_changes_are_writable()
     ensures { (width : ℕ) (height : ℕ) (changes : List ChangeValue) (actions : List StreamAction)
         → IsScreenSize width height → HaveEncodings width height changes

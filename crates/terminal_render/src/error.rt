@@ -8,7 +8,7 @@ use thiserror::Error;
 /// Why a change was not rendered.
 #[derive(Clone, Copy, Debug, PartialEq, Eq, Error)]
 pub enum RenderError {
-    /// No actions that can be sent have the effect of the change.
+    /// No actions have the effect of the change.
     #[error("the change has no spelling")]
     NoSpelling,
     /// There was no memory.

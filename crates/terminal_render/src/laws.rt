@@ -12,13 +12,13 @@ use escape_framing::laws::idle_streams;
 use escape_osc::laws::text_lengths;
 use escape_stream::encoding_laws::writable_lists_read_on;
 
-/// What is sent for a change has its effect: the terminal's table makes of a screen what the change
+/// The encoding of a change has its effect: the terminal's table makes of a screen what the change
 /// makes of it, and nothing is held. The saved cursor and the replies stay.
 pub fn renderings_have_the_effect()
     ensures { RenderingsHaveTheEffect }
 {}
 
-/// What is sent for a change reads back from its bytes: so a parser that reads what `encode` writes of it
+/// The encoding of a change reads back from its bytes: so a parser that reads what `encode` writes of it
 /// hands out these actions.
 pub fn renderings_are_writable()
     ensures { RenderingsAreWritable }
@@ -26,7 +26,7 @@ pub fn renderings_are_writable()
     writable_actions_read_back();
 }
 
-/// The bytes of what is sent for a change, which read back as `render` ensures, have the change's effect
+/// The bytes of a change's encoding, which read back as `render` ensures, have the change's effect
 /// on the screen of a terminal of that size to which they are fed while nothing is unfinished and no run
 /// is held, and leave nothing unfinished or held.
 pub fn rendered_texts_have_the_effect()
@@ -37,7 +37,7 @@ pub fn rendered_texts_have_the_effect()
     writable_lists_read_on();
 }
 
-/// At most 320 bytes are sent for a change beside its text, its title and its link's parameters and URI. For
+/// At most 320 bytes encode a change beside its text, its title and its link's parameters and URI. For
 /// a text they are at most twice its bytes, and one more than it has where it holds no C0 control or DEL.
 pub fn renderings_are_short()
     ensures remaining { RenderingsAreShort }
@@ -48,7 +48,7 @@ pub fn renderings_are_short()
     text_lengths();
 }
 
-/// What is sent for changes in turn has the effect of the changes replayed, and so have its bytes, which
+/// The encodings of changes in turn have the effect of the changes replayed, and so have their bytes, which
 /// leave nothing unfinished or held.
 pub fn lists_have_the_effect()
     ensures actions { ListsHaveTheEffect }
@@ -59,7 +59,7 @@ pub fn lists_have_the_effect()
     writable_lists_read_on();
 }
 
-/// What is sent for one change more follows what is sent for those before it; and lists that read
+/// The encoding of one change more follows the encodings of those before it; and lists that read
 /// back do so one after the other.
 pub fn lists_join()
     ensures renderings { RenderingsJoin }

@@ -90,7 +90,7 @@ fn unless_base_line(value: VerticalAlign) -> Option<Sgr>
 }
 
 // The colour of the text, unless it is the default one.
-fn foreground(color: ColorSpec) -> Option<Sgr>
+fn foreground_setting(color: ColorSpec) -> Option<Sgr>
     ensures { result ≡ unless_default sgr.Foreground color }
 {
     match color {
@@ -99,8 +99,8 @@ fn foreground(color: ColorSpec) -> Option<Sgr>
     }
 }
 
-/// The background, unless it is the default one.
-pub(crate) fn background(color: ColorSpec) -> Option<Sgr>
+// The background, unless it is the default one.
+fn background_setting(color: ColorSpec) -> Option<Sgr>
     ensures { result ≡ unless_default sgr.Background color }
 {
     match color {
@@ -110,7 +110,7 @@ pub(crate) fn background(color: ColorSpec) -> Option<Sgr>
 }
 
 // The colour of underlines, unless it is the default one.
-fn underline_color(color: ColorSpec) -> Option<Sgr>
+fn underline_setting(color: ColorSpec) -> Option<Sgr>
     ensures { result ≡ unless_default sgr.UnderlineColor color }
 {
     match color {
@@ -129,11 +129,11 @@ fn when(on: bool, setting: Sgr) -> Option<Sgr>
 // What is set after a reset, with these colours.
 fn settings(
     a: &CellAttributes,
-    prefix: ColorSpec,
-    back: ColorSpec,
-    line: ColorSpec,
+    foreground: ColorSpec,
+    background: ColorSpec,
+    underline: ColorSpec,
 ) -> [Option<Sgr>; 12]
-    ensures { result ≡ settings a.now prefix back line }
+    ensures { result ≡ settings a.now foreground background underline }
 {
     [
         unless_normal(a.intensity()),
@@ -145,9 +145,9 @@ fn settings(
         when(a.invisible(), Sgr::Invisible(true)),
         when(a.overline(), Sgr::Overline(true)),
         unless_base_line(a.vertical_align()),
-        foreground(prefix),
-        background(back),
-        underline_color(line),
+        foreground_setting(foreground),
+        background_setting(background),
+        underline_setting(underline),
     ]
 }
 
@@ -186,10 +186,10 @@ fn pen_settings(a: &CellAttributes) -> [Option<Sgr>; 12]
     requires { pen_settings a.now ≢ None }
     ensures { pen_settings a.now ≡ Some result }
 {
-    let prefix = color_setting(a.foreground());
-    let back = color_setting(a.background());
-    let line = color_setting(a.underline_color());
-    settings(a, prefix, back, line)
+    let foreground = color_setting(a.foreground());
+    let background = color_setting(a.background());
+    let underline = color_setting(a.underline_color());
+    settings(a, foreground, background, underline)
 }
 
 /// Attributes that have an encoding: a reset, the settings after it, and the link or its end.
@@ -275,7 +275,7 @@ fn push_plain_pen(actions: &mut Actions<'_>, color: ColorSpec) -> Result<(), All
 {
     actions.push_sgr(Sgr::Reset)?;
     actions.push_link(None)?;
-    actions.push_setting(background(color))?;
+    actions.push_setting(background_setting(color))?;
     Ok(())
 }
 

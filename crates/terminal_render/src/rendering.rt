@@ -42,8 +42,8 @@ fn is_whole(height: usize, first_row: usize, region_size: usize) -> bool
     first_row == 0 && height <= region_size
 }
 
-/// Whether a change has an encoding: whether anything can be sent to a terminal of `width` columns and `height` rows
-/// that does to its screen what the change does.
+/// Whether a change has an encoding: actions that do to the screen of a terminal of `width` columns and `height`
+/// rows what the change does.
 #[tactic(auto, unfolding(crate::specs::Pen::clear_rendering, crate::specs::Rendering::scroll_rendering))]
 pub fn has_encoding(change: &Change, width: usize, height: usize) -> bool
     ensures encoding { result ≡ is_some (rendering (change_value change.now) width height) }
@@ -74,12 +74,12 @@ pub fn has_encoding(change: &Change, width: usize, height: usize) -> bool
     }
 }
 
-/// The actions that are sent for a change to a terminal of `width` columns and `height` rows, 1 to
-/// 2^32 - 1 each, as ECMA-48 and xterm's control sequences spell it: they do to the terminal's screen
-/// what the change does. A text is cut at its C0 controls and DEL, and each part that is printed ends
+/// The actions that encode a change for a terminal of `width` columns and `height` rows, 1 to 2^32 - 1
+/// each, as ECMA-48 and xterm's control sequences spell it: they do to the terminal's screen what the
+/// change does. A text is cut at its C0 controls and DEL, and each part that is printed ends
 /// in NUL, so that nothing is held. The actions read back from the bytes that `encode` writes of them.
 ///
-/// `NoSpelling` where nothing that can be sent does so, whatever the memory: a column at or past the
+/// `NoSpelling` where no actions do so, whatever the memory: a column at or past the
 /// width, a way back in the row, a position that moves nothing; scrolls of a part of the rows; a colour
 /// that falls back to the palette, `wrapped`, a semantic type other than output; a link that is
 /// implicit, doesn't read back from its text or holds a control; U+0080 to U+009F in a text, and any

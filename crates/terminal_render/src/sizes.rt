@@ -10,9 +10,8 @@ ghost use Rattle.terminal_render.specs.Spelling.{HaveEncodings};
 
 use crate::laws::renderings_are_short;
 
-/// What is sent for changes that have an encoding is no longer than what is sent for each at most: 320 bytes
-/// beside a title or a link, for a text twice its bytes, and one more than it has where it holds no C0
-/// control or DEL.
+/// The encodings of changes are together no longer than the bounds of each: 320 bytes beside a title or a
+/// link, for a text twice its bytes, and one more than it has where it holds no C0 control or DEL.
 pub fn encoded_lists_are_short()
     ensures { (width : ℕ) (height : ℕ) (changes : List ChangeValue) (actions : List StreamAction)
         → IsScreenSize width height → HaveEncodings width height changes
@@ -21,7 +20,7 @@ pub fn encoded_lists_are_short()
     renderings_are_short();
 }
 
-/// And no more than 320 bytes are sent for each, beside its text, its title, or its link's parameters and URI.
+/// And no more than 320 bytes encode each, beside its text, its title, or its link's parameters and URI.
 pub fn encoded_changes_are_short()
     ensures { (width : ℕ) (height : ℕ) (changes : List ChangeValue) → IsScreenSize width height
         → HaveEncodings width height changes → AreShort width height changes }
@@ -29,7 +28,7 @@ pub fn encoded_changes_are_short()
     renderings_are_short();
 }
 
-/// What is sent for changes prints their texts, each once and in turn; each C0 control or DEL in them as a
+/// The encodings of changes print their texts, each once and in turn; each C0 control or DEL in them as a
 /// space, but CR and LF, which print nothing.
 pub fn deltas_print_each_run_once()
     ensures { (width : ℕ) (height : ℕ) (changes : List ChangeValue) (actions : List StreamAction)

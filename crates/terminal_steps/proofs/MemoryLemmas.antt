@@ -30,7 +30,7 @@ use Rattle.terminal_steps.specs.declared.state.TerminalState.{TerminalState}
 use Rattle.terminal_steps.proofs.NumberLemmas.{stopped_had}
 use Rattle.terminal_steps.proofs.TakeLemmas.{are_prefix, leads}
 
--- ---- what an action logs
+-- ---- the steps that an action logs
 
 act_logged : (f : List ℕ → ℕ) (v : View) (action : StreamAction) → is_print action ≡ false
     → event_logged f v (Act action) ≡ run_logged v ++ map Logged (changes_of (function_of action) (settled f v).state)
@@ -71,7 +71,7 @@ module _ {W : Type 0} (width_of : W → List ℕ → ℕ) where
   abbrev of : TerminalState W → List ℕ → ℕ
   of t = width_of t.surface.grid.widths
 
-  -- ---- what the error of a call tells
+  -- ---- the causes of a call's errors
 
   stopped_memory : (t last : TerminalState W) (items : List Item) → StopsAt (DoesItem width_of) (RefusesItem width_of) t items refusal.Memory last
       → IsReady t → AreEvents (item_events items) → SomeNeedsMemory (of t) (view_of t) t.surface.log items last.surface.is_failed

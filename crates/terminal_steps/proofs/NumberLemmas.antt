@@ -1,4 +1,4 @@
--- Numbers never fall, so what is refused a number leads past the last one.
+-- A log's number never falls, so an event that is refused a number leads past the last one.
 use Rattle.std.proofs.Common.{◌≡◌, ◌≢◌, ℕ, ◌<◌, ◌≤◌, ◌-◌, ◌^◌, Bool, true, false, List, [], ◌∷◌, ◌++◌, fold, refl, sym, ap, subst, ◌∙◌, arith}
 use Rattle.std.specs.Prelude.{nat_lt}
 use Rattle.std.specs.String.{string_bytes}
@@ -59,7 +59,7 @@ module _ {W : Type 0} (width_of : W → List ℕ → ℕ) where
   abbrev of : TerminalState W → List ℕ → ℕ
   of t = width_of t.surface.grid.widths
 
-  -- ---- what is logged for one event after others
+  -- ---- the log of a resize: the log of a look, and then the step for the new size
 
   after_prefix : (t : TerminalState W) (prefix back : List LogStep) → fold step_of_kept t.surface.log ((prefix ++ back) ++ []) ≡ fold step_of_kept (fold step_of_kept t.surface.log (prefix ++ [])) back
   after_prefix t prefix back =
@@ -118,7 +118,7 @@ module _ {W : Type 0} (width_of : W → List ℕ → ℕ) where
 
   -- ---- items in turn
 
-  -- the events of items, where one is refused after others
+  -- the events of items of which one is refused: those of the items done, of the refused one, and of those left
   stopped_all : (done left : List Item) (item : Item) (items : List Item) → items ≡ done ++ (item ∷ left) → item_events items ≡ item_events done ++ (item_event item ∷ item_events left)
   stopped_all done left item items e = ap item_events e ∙ map-append item_event done (item ∷ left)
 
@@ -140,7 +140,7 @@ module _ {W : Type 0} (width_of : W → List ℕ → ℕ) where
   stopped_ready : (t last : TerminalState W) (items : List Item) → StopsAt (DoesItem width_of) (RefusesItem width_of) t items refusal.Failed last → IsReady t → AreEvents (item_events items) → ⊥
   stopped_ready t last items s ready events = s.refused (stopped_had t s.before s.done s.left s.item items s.whole s.performed ready events).ready
 
-  -- what the error of a call tells
+  -- a call that fails with `Number` has events that lead past the last number
   pub halted_number : (t last : TerminalState W) (items : List Item) (h : Halted SurfaceError) → of_halted h ≡ Number → HaltsAt (DoesItem width_of) (RefusesItem width_of) t items h last → NeedsNumber width_of t (item_events items)
   halted_number t last items halted.Failed e s = cc
   halted_number t last items halted.Memory e s = cc

@@ -1,4 +1,4 @@
--- The pieces of a call, and the actions that they spell.
+-- The pieces of a call, and the actions that they represent.
 use Rattle.std.proofs.Common.{◌≡◌, ℕ, ◌+◌, List, [], ◌∷◌, ◌++◌, length, drop, map, fold, refl, sym, ap, subst, ◌∙◌, arith}
 use Rattle.std.specs.Prelude.{encode_utf8, encode_utf8_all}
 use Rattle.std.proofs.lemmas.List.Sums.{fold-append}
@@ -43,13 +43,13 @@ placed_are joins prefix (b ∷ bytes) =
     ∙ (λ i. same_again (length prefix + 1) (newly_decided prefix (b ∷ [])) i ++ placed_are joins (prefix ++ b ∷ []) bytes i)
     ∙ sym (joins prefix (b ∷ []) bytes)
 
--- ---- what a text prints
+-- ---- the bytes of printed characters
 
 text_printed : (cs : List ℕ) (remaining : List Event) → AreEvents (prints cs ++ remaining) → IsPrinted (encode_utf8_all cs) × AreEvents remaining
 text_printed [] remaining h = (refl, h)
 text_printed (c ∷ cs) remaining h = let rest = text_printed cs remaining h.1 in (printed_append (encode_utf8 c) (encode_utf8_all cs) h.0 rest.0, rest.1)
 
--- the actions of a text and of others
+-- the events of a text's characters, and then those of the remaining actions
 acts_of : (cs : List ℕ) (actions all : List StreamAction) → all ≡ map print cs ++ actions → map Act all ≡ prints cs ++ map Act actions
 acts_of cs actions all e = ap (map Act) e ∙ map-append Act (map print cs) actions
 

@@ -1,4 +1,4 @@
--- What worked examples unfold: from bytes to actions, and from these to what the table makes of them.
+-- The definitions that worked examples unfold: from bytes to actions, and from actions to their effects by the table.
 use Rattle.std.specs.Str.{chars, is_utf8}
 use Rattle.std.specs.Char.{encode_utf8}
 use Rattle.std.specs.Str.Lossy.{utf8_valid_len, utf8_error_len}
@@ -24,7 +24,7 @@ use Rattle.escape_osc.specs.Reading.{utf8_reading, text_reading, base64_reading,
 use Rattle.escape_osc.specs.Selection.{letter_bits, letters_bits, selection_reading}
 use Rattle.terminal_table.specs.Functions.{function_of}
 
--- `unfolding table` lets `refl` compute what is seen after a history
+-- `unfolding table` lets `refl` compute the view after a history
 unfoldable pub table : Unit {0}
 unfolding chars is_utf8 digits encode_utf8 utf8_valid_len utf8_error_len unicode_segmentation unicode_width program_width mode_group groups csi_reading cursor_reading edit_reading device_reading private_mode_reading mode_reading colour_form single_code numbered_shape sgr_shape sgr_group known_code is_stop is_embedded is_intermediate is_parameter is_final is_escape_final is_string_opener is_opener is_cut the_cut first_byte in_character opened_by after_escape next_byte read_on escape_dispatch control_sequence_dispatch command_dispatch holds_c1 utf8_reading text_reading base64_reading data_reading clear_reading lettered_reading selection_command link_command coded_reading letter_bits letters_bits selection_reading texts_reading link_reading function_of
 table = tt

@@ -80,32 +80,32 @@ starts_grow : (test : VisibleCell → Bool) (at : ℕ) (row : Row) → passing t
 starts_grow test at [] = omega arith
 starts_grow test at (x ∷ row) = let first = column_most test at (right_alone x) in omega arith
 
-after_few : (test : VisibleCell → Bool) (n at : ℕ) (row : Row) → passing test (at + n) (drop n row) ≤ passing test at row
-after_few test zero at row =
+after_bound : (test : VisibleCell → Bool) (n at : ℕ) (row : Row) → passing test (at + n) (drop n row) ≤ passing test at row
+after_bound test zero at row =
     let position : at + 0 ≡ at = omega arith in
     let same : passing test (at + 0) row ≡ passing test at row = ap (λ n. passing test n row) position in
     omega arith
-after_few test (suc n) at [] = omega arith
-after_few test (suc n) at (x ∷ row) =
+after_bound test (suc n) at [] = omega arith
+after_bound test (suc n) at (x ∷ row) =
     let position : at + 1 + n ≡ at + suc n = omega arith in
     let same : passing test (at + 1 + n) (drop n row) ≡ passing test (at + suc n) (drop n row) = ap (λ k. passing test k (drop n row)) position in
-    let rest = after_few test n (at + 1) row in
+    let rest = after_bound test n (at + 1) row in
     omega arith
 
--- what stands before a position, and from a later one on
-parts_few : (test : VisibleCell → Bool) (k m at : ℕ) (row : Row) → k ≤ m → passing test at (take k row) + passing test (at + m) (drop m row) ≤ passing test at row
-parts_few test zero m at row h = let after = after_few test m at row in omega arith
-parts_few test (suc k) zero at row h = absurd (omega arith)
-parts_few test (suc k) (suc m) at [] h = omega arith
-parts_few test (suc k) (suc m) at (x ∷ row) h =
+-- the cells that pass before a position and from a later one on are no more than those of the row
+parts_bound : (test : VisibleCell → Bool) (k m at : ℕ) (row : Row) → k ≤ m → passing test at (take k row) + passing test (at + m) (drop m row) ≤ passing test at row
+parts_bound test zero m at row h = let after = after_bound test m at row in omega arith
+parts_bound test (suc k) zero at row h = absurd (omega arith)
+parts_bound test (suc k) (suc m) at [] h = omega arith
+parts_bound test (suc k) (suc m) at (x ∷ row) h =
     let position : at + 1 + m ≡ at + suc m = omega arith in
     let same : passing test (at + 1 + m) (drop m row) ≡ passing test (at + suc m) (drop m row) = ap (λ n. passing test n (drop m row)) position in
-    let rest = parts_few test k m (at + 1) row (omega arith) in
+    let rest = parts_bound test k m (at + 1) row (omega arith) in
     omega arith
 
 -- ---- columns that are set
 
--- columns with one cell, between parts each of which has so many cells more once it is closed
+-- columns with at most one cell are set between two parts, each of which gets at most `more` cells when it is closed
 set_grows : (test : VisibleCell → Bool) (row : Row) (k : ℕ) (columns : Row) (more : ℕ) → ((at : ℕ) → passing test at columns ≤ 1)
     → ((at : ℕ) → passing test at (closed_end (take k row)) ≤ passing test at (take k row) + more)
     → ((at : ℕ) → passing test at (closed_start (drop (k + length columns) row)) ≤ passing test at (drop (k + length columns) row) + more)
@@ -128,7 +128,7 @@ set_grows test row k columns more own prefix_grows back_grows = elim (cases_lt (
         omega arith
 
     kept : passing test 0 (take k row) + passing test (0 + m) (drop m row) ≤ passing test 0 row
-    kept = parts_few test k m 0 row (omega arith)
+    kept = parts_bound test k m 0 row (omega arith)
 
     inside : k ≤ length row → passing test 0 (set_columns row k columns) ≤ passing test 0 row + (more + more + 1)
     inside h =

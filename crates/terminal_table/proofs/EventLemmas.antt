@@ -1,4 +1,4 @@
--- What is logged for events has their effect, and views stay lawful.
+-- The changes logged for events have the effect of the events, and views stay lawful.
 use Rattle.std.proofs.Common.{◌≡◌, ℕ, Bool, true, false, List, [], ◌∷◌, ◌++◌, length, take, map, fold, replicate, refl, sym, ap, subst, ◌∙◌}
 use Rattle.std.specs.Prelude.{◌-◌, ◌==◌}
 use Rattle.std.proofs.lemmas.List.Elements.{All-append, All-take, All-replicate}
@@ -53,7 +53,7 @@ after_is cut width_of v history h k =
     let kept = events_keep width_of v (events v.stream history) h (events_are cut v.stream history k) in
     record { lawful = kept.lawful; plain = kept.plain }
 
--- ---- what is logged is replayed
+-- ---- the logged changes are replayed
 
 -- a display turns into one that shows a screen, and stays lawful
 pub record Follows (before after : Display) (shown : Screen) : Type 0 where

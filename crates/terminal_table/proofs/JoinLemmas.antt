@@ -100,7 +100,7 @@ logged_joins width_of v a b =
 
 -- ---- chunks may be cut anywhere
 
--- chunks decide what their concatenation decides
+-- two chunks decide the actions that their concatenation decides
 abbrev pub PiecesJoin : Type 0
 PiecesJoin = (stream x y : List ℕ) → newly_decided_actions stream (x ++ y) ≡ newly_decided_actions stream x ++ newly_decided_actions (stream ++ x) y
 
@@ -146,7 +146,7 @@ pub alike_logged : PiecesJoin → (width_of : List ℕ → ℕ) (v : View) (othe
 alike_logged joins width_of v other history h =
     logged_with width_of v other (events other history) ∙ ap (events_logged width_of v) (sym (alike_events joins v.stream other history h))
 
--- what is held of a stream decides what more bytes hand out
+-- the held state of a stream determines the dispatches of more bytes
 abbrev pub HeldDecides : Type 0
 HeldDecides = (stream more : List ℕ) → newly_decided stream more ≡ (hand_out (held_of stream) more).dispatches
 

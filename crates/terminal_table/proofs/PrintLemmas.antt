@@ -1,4 +1,4 @@
--- What a stream prints holds no controls.
+-- The texts that a stream prints hold no controls.
 use Rattle.std.proofs.Common.{ℕ, zero, suc, inr, Bool, true, false, List, [], ◌∷◌, ◌++◌, length, drop, map, refl, arith}
 use Rattle.std.specs.Prelude.{⊤, ◌==◌, ◌||◌, Option, Some, None, filter, nat_lt, if◌then◌else◌}
 use Rattle.std.specs.Char.{IsScalar}

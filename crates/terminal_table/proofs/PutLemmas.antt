@@ -1,4 +1,4 @@
--- How many cells clusters make that others don't show: of those that are put and scroll nothing each makes at most three, and one where no text is wide.
+-- Clusters that are put without scrolling: each adds at most three cells that the old rows don't show; in narrow rows, a narrow one at most one.
 use Rattle.std.proofs.Common.{◌≡◌, ℕ, zero, suc, ◌+◌, ◌*◌, ◌≤◌, Bool, true, false, List, [], ◌∷◌, length, get_or, set, map, fold, refl, sym, subst, arith}
 use Rattle.std.specs.Prelude.{⊤, All, ◌==◌, ◌&&◌, nat_le, nat_lt, not, if◌then◌else◌}
 use Rattle.std.proofs.lemmas.Bool.{false≢true, or_parts, leb-true, ltb-true, eqb-true}
@@ -13,16 +13,16 @@ use Rattle.screen_difference.specs.Prints.{PlacedText, print_of, strokes_print, 
 use Rattle.terminal_table.proofs.CountLemmas.{IsNarrowRow, passing_is, text_grows, narrow_grows, narrow_set}
 use Rattle.terminal_table.proofs.RowsLemmas.{row_count, rows_count, row_set}
 
--- Rows become others, which keep something, and have at most so many cells more for each text that is printed which some rows don't show.
+-- The rows after some printed texts: `Kept` holds of them, and they have at most `most` more cells per text that `olds` don't show.
 pub record Grows (olds : List Row) (most : ℕ) (Kept : List Row → Type 0) (before after : List Row) (texts : ℕ) : Type 0 where
   pub kept : Kept after
-  pub few : rows_count olds after ≤ rows_count olds before + most * texts
+  pub bound : rows_count olds after ≤ rows_count olds before + most * texts
 
 pub stays : (olds : List Row) (most : ℕ) (Kept : List Row → Type 0) (rows : List Row) → Kept rows → Grows olds most Kept rows rows 0
-stays olds most Kept rows k = record { kept = k; few = omega arith }
+stays olds most Kept rows k = record { kept = k; bound = omega arith }
 
 pub in_turn : (olds : List Row) (most : ℕ) (Kept : List Row → Type 0) (a b c : List Row) (m n : ℕ) → Grows olds most Kept a b m → Grows olds most Kept b c n → Grows olds most Kept a c (m + n)
-in_turn olds most Kept a b c m n x y = record { kept = y.kept; few = let f = x.few in let g = y.few in omega arith }
+in_turn olds most Kept a b c m n x y = record { kept = y.kept; bound = let f = x.bound in let g = y.bound in omega arith }
 
 -- ---- one cluster
 
@@ -55,7 +55,7 @@ narrow_row_grows old row column text wide attributes h =
     let more = narrow_grows (λ v. not (is_shown (visible_from 0 old) v)) row column text wide attributes h in
     omega arith
 
--- what each text does that is printed
+-- each printed text adds at most `most` cells
 abbrev pub TextsGrow : (List ℕ → ℕ) → List Row → ℕ → (List Row → Type 0) → (PlacedText → Type 0) → Type 0
 TextsGrow width_of olds most Kept Printed =
     (s : Screen) (text : List ℕ) → scrolls width_of s (Cluster text) ≡ false → Kept s.rows → Printed (print_of width_of s text) → Grows olds most Kept s.rows (put width_of s text).rows 1
@@ -73,7 +73,7 @@ texts_grow width_of olds s text still k p =
     let wide : Bool = nat_le 2 (width_of text) in
     let shown : List ℕ = if wide && s.width == 1 then space else text in
     let more = row_set olds s.rows row (set_columns (get_or s.rows row []) column (cluster_columns width_of s text)) 3 (λ old. row_grows old (get_or s.rows row []) column shown (wide && nat_lt 1 s.width) s.pen) in
-    record { kept = tt; few = omega arith })
+    record { kept = tt; bound = omega arith })
 
 -- ---- and where no text is wide
 
@@ -113,7 +113,7 @@ narrow_texts_grow width_of olds s text still k p =
     let more = row_set olds s.rows row new 1 (λ old. narrow_row_grows old (get_or s.rows row []) column shown (wide && nat_lt 1 s.width) s.pen there) in
     record {
       kept = All-set IsNarrowRow s.rows row new (narrow_set (get_or s.rows row []) column (cluster_columns width_of s text) there (narrow_columns width_of s text p)) k;
-      few = omega arith;
+      bound = omega arith;
     })
 
 -- ---- clusters in turn

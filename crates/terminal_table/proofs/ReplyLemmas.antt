@@ -1,4 +1,4 @@
--- Replies that are taken change nothing else; and what ends no run.
+-- Replies that are taken change nothing else; and steps that end no run.
 use Rattle.std.proofs.Common.{◌≡◌, ℕ, Bool, true, false, List, [], ◌∷◌, ◌++◌, length, map, fold, refl, sym, ap, ◌∙◌, append_assoc, append-nil}
 use Rattle.std.specs.Prelude.{◌==◌, Option, Some, None, if◌then◌else◌}
 use Rattle.cell_base.specs.Screen.{Screen}
@@ -102,7 +102,7 @@ after_separate width_of v history = ap (λ x. after width_of x history) (sym (to
 pub logged_separate : (width_of : List ℕ → ℕ) (v : View) (history : History) → logged width_of (without_replies v) history ≡ logged width_of v history
 logged_separate width_of v history = sym (logged_with_taken width_of v.state.replies (without_replies v) history) ∙ ap (λ x. logged width_of x history) (together v)
 
--- ---- what ends no run
+-- ---- steps that end no run
 
 pub forgets_separate : (width_of : List ℕ → ℕ) (v : View) (first second : History) (number : ℕ) → after width_of v (first ++ (Forget number ∷ second)) ≡ after width_of v (first ++ second)
 forgets_separate width_of v first second number = after_joins width_of v first (Forget number ∷ second) ∙ sym (after_joins width_of v first second)

@@ -1,4 +1,4 @@
--- How many visible cells of rows others don't show: none against themselves; and how many more once one row is another.
+-- The number of visible cells of rows that other rows don't show: none against themselves; and how it grows if a row is replaced.
 use Rattle.std.proofs.Common.{◌≡◌, ℕ, zero, suc, ◌+◌, ◌-◌, ◌≤◌, ◌∙◌, true, List, [], ◌∷◌, length, get_or, set, take, refl, ap, arith, length-append}
 use Rattle.std.specs.Prelude.{All, ◌==◌, ◌&&◌, not, min}
 use Rattle.std.specs.Cmp.{unsigned_Decides}
@@ -14,7 +14,7 @@ use Rattle.cell_base.proofs.RowLemmas.{whole_ends, whole_starts}
 use Rattle.screen_difference.specs.FreshCells.{PlacedCell, columns_from, fresh, is_shown, placed, row_fresh, rows_fresh, screen_fresh}
 use Rattle.terminal_table.proofs.CountLemmas.{passing, passing_is}
 
--- how many visible cells of a row, and of rows in turn, others don't show
+-- the number of visible cells of a row, or of rows in turn, that the old row or rows don't show
 abbrev pub row_count : Row → Row → ℕ
 row_count old new = length (fresh (visible_from 0 old) (visible_from 0 new))
 
@@ -65,7 +65,7 @@ row_set (old ∷ olds) [] at row more h = omega arith
 row_set (old ∷ olds) (other ∷ rows) zero row more h = let first = h old in omega arith
 row_set (old ∷ olds) (other ∷ rows) (suc at) row more h = let rest = row_set olds rows at row more h in omega arith
 
--- ---- the same of screens
+-- ---- the visible cells of screens
 
 -- all columns of a whole row
 whole_part : (width count : ℕ) (row : Row) → count ≡ width → length row ≡ width → IsWhole row → columns_from 0 count row ≡ row
@@ -95,7 +95,7 @@ whole_rows width number (old ∷ olds) (new ∷ news) o n w v =
     placed_at : ℕ → VisibleCell → PlacedCell
     placed_at row v = record { row = row; column = v.column; cell = v.cell }
 
--- the fresh cells of a screen against another of the same width
+-- the number of fresh cells of a screen against another of the same width
 pub fresh_count : (old new : Screen) → IsScreen old → IsScreen new → All IsWhole old.rows → All IsWhole new.rows → new.width ≡ old.width → length (screen_fresh old new) ≡ rows_count old.rows new.rows
 fresh_count old new o n w v e =
     ap (λ (rows : List Row). length (rows_fresh (row_fresh 0 0 old.width) 0 rows new.rows)) (take_all (height old) old.rows (omega arith))

@@ -33,7 +33,7 @@ no_more (a ∷ actions) = ap (λ xs. a ∷ xs) (no_more actions)
 abbrev at : State → List ℕ → View
 at state stream = record { state = state; stream = stream; held = [] }
 
--- what its text says, and the look
+-- the events of the action's text, and the look
 abbrev read_events : StreamAction → List Event
 read_events action = map Act (read_form (action ∷ [])) ++ Looked ∷ []
 
@@ -101,15 +101,15 @@ abbrev pub WholeIsIdle : Type 0
 WholeIsIdle = (stream : List ℕ) → tail_of stream ≡ Begun [] → held_of stream ≡ nothing_held
 
 module _ (whole : IdleIsWhole) (reads : WritableListsReadOn) where
-  said : (view : View) (action : StreamAction) → IsIdle view → IsWritable (action ∷ []) → events view.stream (alone action) ≡ read_events action
-  said view action idle w = ap (λ actions. map Act actions ++ Looked ∷ []) (reads view.stream (action ∷ []) (whole view.stream idle.stream) w)
+  single_events : (view : View) (action : StreamAction) → IsIdle view → IsWritable (action ∷ []) → events view.stream (alone action) ≡ read_events action
+  single_events view action idle w = ap (λ actions. map Act actions ++ Looked ∷ []) (reads view.stream (action ∷ []) (whole view.stream idle.stream) w)
 
   same : (view : View) → IsIdle view → view ≡ at view.state view.stream
   same view idle = λ i. record view { held = idle.run i }
 
   shown : (f : List ℕ → ℕ) (view : View) (action : StreamAction) → IsIdle view → IsWritable (action ∷ []) → fold (event_done f) view (events view.stream (alone action)) ≡ at (row_done f action view.state) view.stream
   shown f view action idle w =
-      ap (fold (event_done f) view) (said view action idle w)
+      ap (fold (event_done f) view) (single_events view action idle w)
       ∙ ap (λ v. fold (event_done f) v (read_events action)) (same view idle)
       ∙ row_is f view.state view.stream action w
 
@@ -118,7 +118,7 @@ module _ (whole : IdleIsWhole) (reads : WritableListsReadOn) where
 
   pub single_logged : (f : List ℕ → ℕ) (view : View) (action : StreamAction) → IsIdle view → IsWritable (action ∷ []) → logged f view (alone action) ≡ row_logged action view.state
   single_logged f view action idle w =
-      ap (events_logged f view) (said view action idle w)
+      ap (events_logged f view) (single_events view action idle w)
       ∙ ap (λ v. events_logged f v (read_events action)) (same view idle)
       ∙ row_logged_is f view.state view.stream action w
 

@@ -17,7 +17,7 @@ use Rattle.terminal_table.specs.Changes.{changes}
 use Rattle.terminal_table.specs.Meaning.{with_size}
 use Rattle.terminal_table.proofs.TurnLemmas.{function_turns}
 
--- what is lawful of a screen
+-- a lawful screen with whole rows
 pub record IsWholeScreen (screen : Screen) : Type 0 where
   pub lawful : IsScreen screen
   pub whole : All IsWhole screen.rows

@@ -16,7 +16,7 @@ use Rattle.terminal_table.specs.Prints.{IsPlain, IsPlainEvent, ArePlainEvents, e
 use Rattle.terminal_table.proofs.RowsLemmas.{fresh_count, rows_count, rows_themselves}
 use Rattle.terminal_table.proofs.PutLemmas.{AnyText, Anything, AreNarrow, Grows, IsNarrowText, TextsGrow, clusters_grow, in_turn, narrow_texts_grow, stays, texts_grow}
 
--- what holds of two lists in a row holds of each
+-- a property of all elements of two joined lists is one of all elements of each list
 both_parts : {A : Type 0} (P : A → Type 0) (xs ys : List A) → All P (xs ++ ys) → All P xs × All P ys
 both_parts P [] ys h = (All-nil P, h)
 both_parts P (x ∷ xs) ys h = let rest = both_parts P xs ys (All-tail P x (xs ++ ys) h) in (All-cons P x xs (All-head P x (xs ++ ys) h) rest.0, rest.1)
@@ -33,7 +33,7 @@ module _ (width_of : List ℕ → ℕ) (olds : List Row) (most : ℕ) (Kept : Li
       texts = length (strokes_print width_of view.state.screen (run_strokes view))
 
       by_test : (b : Bool) → Grows olds most Kept view.state.screen.rows (if b then view.state else run_step width_of view.held view.state).screen.rows texts
-      by_test true = record { kept = k; few = omega arith }
+      by_test true = record { kept = k; bound = omega arith }
       by_test false = clusters_grow width_of olds most Kept Printed grow (clusters view.held) view.state.screen still k p
 
   -- an event changes no row by itself
@@ -80,14 +80,14 @@ run_width width_of view = by_test (length view.held == 0)
     by_test true = refl
     by_test false = puts_width width_of (clusters view.held) view.state.screen
 
--- what the laws of views give: events leave lawful views, and a stream has lawful events
+-- the laws of views: events leave lawful views, and a stream has lawful events
 abbrev pub EventsKeepViews : Type 0
 EventsKeepViews = (width_of : List ℕ → ℕ) (view : View) (event : Event) → IsView view → IsEvent event → IsView (event_done width_of view event)
 
 abbrev pub StreamsHaveEvents : Type 0
 StreamsHaveEvents = (stream : List ℕ) (history : History) → AreSizes history → AreEvents (events stream history)
 
--- lawful screens with the same rows are as wide
+-- lawful screens with the same rows have the same width
 same_width : (one other : Screen) → IsScreen one → IsScreen other → one.rows ≡ other.rows → one.width ≡ other.width
 same_width one other h k e = sym (first_row one h) ∙ ap (λ (rows : List Row). length (get_or rows 0 [])) e ∙ first_row other k
 
@@ -131,7 +131,7 @@ pub prints_a_third : EventsKeepViews → StreamsHaveEvents → PlainStreamsPrint
 prints_a_third keep have width_of view bytes h plain =
     let olds : List Row = view.state.screen.rows in
     let all = events_grow width_of olds 3 Anything AnyText (texts_grow width_of olds) (events view.stream (read bytes)) view plain tt (λ k d lt. tt) in
-    let few = all.few in
+    let bound = all.bound in
     let none = rows_themselves olds in
     let fresh = fresh_rows keep have width_of view bytes h plain in
     omega arith
@@ -140,7 +140,7 @@ pub prints_as_many : EventsKeepViews → StreamsHaveEvents → NarrowStreamsPrin
 prints_as_many keep have width_of view bytes h plain narrow texts =
     let olds : List Row = view.state.screen.rows in
     let all = events_grow width_of olds 1 AreNarrow (IsNarrowText width_of) (narrow_texts_grow width_of olds) (events view.stream (read bytes)) view plain narrow texts in
-    let few = all.few in
+    let bound = all.bound in
     let none = rows_themselves olds in
     let fresh = fresh_rows keep have width_of view bytes h plain in
     omega arith

@@ -1,4 +1,4 @@
--- The changes of each control function turn a display into one that shows what the function makes of its screen.
+-- The changes of each control function turn a display into one that shows the screen after the function.
 use Rattle.std.proofs.Common.{◌≡◌, ℕ, zero, suc, ◌+◌, ◌-◌, ◌<◌, Bool, true, false, List, [], ◌∷◌, ◌++◌, length, take, drop, set, get_or, map, replicate, refl, sym, ap, subst, ◌∙◌, arith, length-drop, length-set}
 use Rattle.std.specs.Prelude.{◌==◌, min, Option, Some, None}
 use Rattle.std.proofs.lemmas.List.{length-replicate, length-map}
@@ -44,7 +44,7 @@ column_within width from at h = by_test (min at (width - 1) == width) refl
 row_within : (size from at : ℕ) → resolved size from (Absolute (min at (size - 1))) ≡ min at (size - 1)
 row_within size from at = omega arith
 
--- a position on a screen, as it was computed on one of the same size
+-- a position change that is computed for one screen leads to this position on another of the same size
 pub positioned : (width_of : List ℕ → ℕ) (d : Display) (at : ℕ × ℕ) (other : Screen) → 0 < d.screen.width → other.width ≡ d.screen.width → height other ≡ height d.screen
     → (effect width_of d (position at other)) ≡ record d { screen = at_position at d.screen }
 positioned width_of d at other h w t = λ i. record d { screen = record d.screen { column = columns i; row = rows i } }
@@ -112,7 +112,7 @@ reverse_turns width_of saved d h = by_test (d.screen.row == 0) refl
 
 -- ---- erasures
 
--- of what followed the columns nothing is left
+-- after the blanks nothing is left of the row
 pub erased_is : (column : ℕ) (color : ColorAttribute) (row : Row) → cleared_after column color row ≡ erased_after column color row
 erased_is column color row =
     let n = length-replicate (length row - column) (blank (blank_of color)) in
@@ -151,7 +151,7 @@ display_end_turns width_of saved d h =
     (ap (λ row. record s { rows = take s.row s.rows ++ row ∷ replicate (height s - (s.row + 1)) (blank_row s.width s.pen.background) }) (erased_is s.column s.pen.background (get_or s.rows s.row []))
     ∙ ap (λ rows. record s { rows = rows }) (rows_below s (erased_after s.column s.pen.background (get_or s.rows s.row [])) h.lawful.row_in))
 
--- the position where the cursor was, on a screen of the same size: no wrap is pending there
+-- the position of the cursor, on a screen of the same size: no wrap is pending there
 same_row : (s other : Screen) → IsScreen s → other.width ≡ s.width → height other ≡ height s → at_position (active_column s, s.row) other ≡ record other { column = active_column s; row = s.row }
 same_row s other h w t = λ i. record other { column = columns i; row = rows i }
   where
@@ -176,7 +176,7 @@ display_turns width_of saved d h =
     subst (λ x. Turns d x (display_erased s)) (sym e) (screen_turns d (display_erased s) (display_erased s) refl)
 
 line_turns : (width_of : List ℕ → ℕ) (saved : Option SavedCursor) (d : Display) → IsDisplay d → Turns d (replay width_of d (changes table.EraseLine saved d.screen)) (line_erased d.screen)
-line_turns width_of saved d h = subst (λ x. Turns d x (line_erased s)) (sym (begun ∙ gone)) (screen_turns d _ (line_erased s) refl)
+line_turns width_of saved d h = subst (λ x. Turns d x (line_erased s)) (sym (begun ∙ erased)) (screen_turns d _ (line_erased s) refl)
   where
     s : Screen
     s = d.screen
@@ -205,8 +205,8 @@ line_turns width_of saved d h = subst (λ x. Turns d x (line_erased s)) (sym (be
     cleared : Display
     cleared = record d { screen = record s { column = 0; rows = set s.rows s.row (blank_row s.width s.pen.background); pen = blank_of s.pen.background } }
 
-    gone : replay width_of first remaining ≡ record d { screen = line_erased s }
-    gone =
+    erased : replay width_of first remaining ≡ record d { screen = line_erased s }
+    erased =
         ap (λ row. replay width_of (record d { screen = record s { column = 0; rows = set s.rows s.row row; pen = blank_of s.pen.background } }) (same_position s ∷ AllAttributes s.pen ∷ [])) blanks
         ∙ back width_of cleared s h.lawful refl (length-set {A = Row} s.rows s.row (blank_row s.width s.pen.background))
 
@@ -267,7 +267,7 @@ function_turns width_of table.FullReset saved d h = reset_turns width_of saved d
 function_turns width_of table.ReportStatus saved d h = screen_turns d _ _ refl
 function_turns width_of table.ReportPosition saved d h = screen_turns d _ _ refl
 
--- the same of a state whose screen the display shows
+-- for a state whose screen the display shows: the changes turn the display into one that shows the screen after the function
 pub step_turns : (width_of : List ℕ → ℕ) (function : ControlFunction) (state : State) (d : Display) → IsDisplay d → d.screen ≡ state.screen → Turns d (replay width_of d (changes function state.saved state.screen)) (screen_step function state.saved state.screen)
 step_turns width_of function state d h e = subst (λ s. Turns d (replay width_of d (changes function state.saved s)) (screen_step function state.saved s)) e (function_turns width_of function state.saved d h)
 

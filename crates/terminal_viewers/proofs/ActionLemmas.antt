@@ -89,7 +89,7 @@ module _ (f : List ℕ → ℕ) where
   plain_append v [] ys p q = q
   plain_append v (x ∷ xs) ys p q = (p.0, plain_append (event_done f v x) xs ys p.1 q)
 
-  -- what actions print, and what else they do
+  -- the texts that actions print; plain actions change rows with these texts alone, and nothing scrolls
   abbrev actions_print : View → List StreamAction → List PlacedText
   actions_print v actions = events_print f v (map Act actions)
 
@@ -126,9 +126,9 @@ module _ (f : List ℕ → ℕ) where
   quiet_held : (v : View) (a : StreamAction) → IsQuiet a → (event_done f v (Act a)).held ≡ []
   quiet_held v a q = ap (λ b. (if b then record v { held = v.held ++ action.printed a } else record (settled f v) { state = step_of (function_of a) (settled f v).state }).held) q.separate
 
-  -- ---- what is sent
+  -- ---- the actions of an encoding
 
-  -- what some actions print, that they are plain, and that their texts are UTF-8
+  -- the actions print these texts, are plain, and hold texts in UTF-8
   pub record Sends (v : View) (actions : List StreamAction) (texts : List PlacedText) : Type 0 where
     pub prints : actions_print v actions ≡ texts
     pub plain : ArePlain v actions
@@ -168,7 +168,7 @@ module _ (f : List ℕ → ℕ) where
       → Sends v (run_actions text) (strokes_print f v.state.screen (map Cluster (clusters text)))
   run_sends v text e u still = subst (λ w. Sends w (run_actions text) (strokes_print f v.state.screen (map Cluster (clusters text)))) (is_empty v e) (run_of_empty v text u still)
 
-  -- ---- what is read
+  -- ---- the actions that are read back
 
   -- the characters of a text
   characters_print : (v : View) (cs : List ℕ) → actions_print v (map print cs) ≡ []
@@ -214,7 +214,7 @@ module _ (f : List ℕ → ℕ) where
   closed_run exit v e = refl
   closed_run _ v e = cc
 
-  -- the actions as they are read print the same, and are plain
+  -- the actions that are read back print the same texts, and are plain
   read_after : (closed : Bool) (actions : List StreamAction) (v : View) (texts : List PlacedText) → (closed ≡ true → v.held ≡ []) → Sends v actions texts
       → (actions_print v (read_form_after closed actions) ≡ texts) × ArePlain v (read_form_after closed actions)
   read_after closed [] v texts h p = let added = added_sends closed false v h in (added.prints ∙ p.prints, added.plain)

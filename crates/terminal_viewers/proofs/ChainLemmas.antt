@@ -1,4 +1,4 @@
--- What chains keep as they go on and as their viewers are answered, and what is shown after an answer.
+-- Chains stay chains as they go on and as their viewers are answered; after an answer a viewer shows the screen of the one that answered it.
 use Rattle.std.proofs.Common.{◌≡◌, ℕ, zero, suc, ◌≤◌, List, [], ◌∷◌, ◌++◌, take, refl, sym, ap, subst, ◌∙◌, arith}
 use Rattle.std.proofs.lemmas.List.Elements.{All-cons, All-head, All-nil, All-tail}
 use Rattle.cell_base.specs.Row.{space}
@@ -24,9 +24,9 @@ use Rattle.terminal_viewers.specs.Viewers.{CanRead, UpdatesAreShown, UpdatesLeav
 use Rattle.terminal_viewers.proofs.DueLemmas.{steps_reach}
 use Rattle.terminal_viewers.proofs.ShowLemmas.{history_shows, shows_itself}
 
--- ---- what chains keep
+-- ---- the invariant of chains
 
--- A viewer waits, and once it has taken on the sizes since the last answer it shows at its number the one that answers it.
+-- A waiting viewer: once it has taken on the sizes since the last answer, it shows at its number the screen of the one that answers it.
 pub record Follows (width_of : List ℕ → ℕ) (one : Standing) (viewer : Viewer) : Type 0 where
   pub idle : IsIdle viewer.standing.view
   pub shows : Shows width_of (repeated viewer.since viewer.standing.view.state.screen) viewer.number one.view.state.screen one.log
@@ -53,7 +53,7 @@ HasScreen screen viewer = viewer.standing.view.state.screen ≡ screen
 module _ (cut : AllCut) (width_of : List ℕ → ℕ) (narrow : width_of space ≡ 1) where
   -- ---- a chain goes on
 
-  -- where a viewer stands once it has taken on the sizes since the last answer
+  -- the standing of a viewer once it has taken on the sizes since the last answer
   abbrev repeating : Viewer → Standing
   repeating viewer = standing_after width_of viewer.standing (sizes viewer.since)
 
@@ -89,7 +89,7 @@ module _ (cut : AllCut) (width_of : List ℕ → ℕ) (narrow : width_of space �
   goes_on history one (viewer ∷ viewers) h c =
       (can_answer_after cut width_of narrow one history c.0 h, follows_after one viewer history c.0 (can_answer width_of viewer.standing viewers c.2) c.1 h, c.2)
 
-  -- one is looked at, which is nothing to a viewer of it
+  -- after the one that answers takes a look, its viewer still follows it
   follows_looked : (one : Standing) (viewer : Viewer) → CanAnswer width_of one → CanAnswer width_of viewer.standing → Follows width_of one viewer → Follows width_of (standing_after width_of one (Look ∷ [])) viewer
   follows_looked one viewer can own f = record {
     idle = f.idle;
@@ -98,7 +98,7 @@ module _ (cut : AllCut) (width_of : List ℕ → ℕ) (narrow : width_of space �
     steps = f.steps;
   }
 
-  -- a viewer forgets, which is nothing to the one that answers it
+  -- a viewer that forgets changes leaves a chain a chain
   pub forgetting_keeps : (number at : ℕ) (one : Standing) (viewers : List Viewer) → IsChain width_of one viewers → IsChain width_of one (forgetting width_of number at viewers)
   forgetting_keeps number at one [] c = c
   forgetting_keeps number zero one (viewer ∷ viewers) c = (

@@ -39,7 +39,7 @@ texts_count (cell ∷ cells) = by_answer (stay_independent (cell ∷ cells))
     by_answer true = omega arith
     by_answer false = omega arith
 
--- one for each run, and one for each of its cells
+-- the number of runs, and of their cells
 abbrev runs_size : List CellRun → ℕ
 runs_size [] = 0
 runs_size (run ∷ runs) = 1 + length run.cells + runs_size runs
@@ -186,7 +186,7 @@ painted_count s h =
 most_bound : (s : Screen) (most : ℕ) → most ≡ most_due s.width (height s) → most ≤ bound_of s
 most_bound s most e = omega (arith, e)
 
--- no more are due than may be
+-- the changes that are due, or else those that paint the screen, are at most `bound`
 due_within : (most bound : ℕ) (l : Log) (number : ℕ) (painted : List ChangeValue) → length l.entries ≤ l.number → most ≤ bound → length painted ≤ bound → length (due_or painted (due most l number)) ≤ bound
 due_within most bound l number painted counted m p =
     by_test (number == 0 || nat_lt number (first_number l) || nat_lt l.number number || nat_lt most (l.number - number))
@@ -195,18 +195,18 @@ due_within most bound l number painted counted m p =
     let x = or_parts (number == 0 || nat_lt number (first_number l) || nat_lt l.number number) (nat_lt most (l.number - number)) e in
     let y = or_parts (number == 0 || nat_lt number (first_number l)) (nat_lt l.number number) x.0 in
     let z = or_parts (number == 0) (nat_lt number (first_number l)) y.0 in
-    subst (λ b. length (due_or painted (if b then None else Some changes)) ≤ bound) (sym e) (few x.1 y.1 z.1))
+    subst (λ b. length (due_or painted (if b then None else Some changes)) ≤ bound) (sym e) (in_bound x.1 y.1 z.1))
   where
     changes : List ChangeValue
     changes = drop (number - first_number l) l.entries
 
-    few : nat_lt most (l.number - number) ≡ false → nat_lt l.number number ≡ false → nat_lt number (first_number l) ≡ false → length (drop (number - first_number l) l.entries) ≤ bound
-    few a b c =
-        let few_enough : l.number - number ≤ most = grind (arith, nat_tests) in
+    in_bound : nat_lt most (l.number - number) ≡ false → nat_lt l.number number ≡ false → nat_lt number (first_number l) ≡ false → length (drop (number - first_number l) l.entries) ≤ bound
+    in_bound a b c =
+        let within : l.number - number ≤ most = grind (arith, nat_tests) in
         let not_above : number ≤ l.number = grind (arith, nat_tests) in
         let not_before : first_number l ≤ number = grind (arith, nat_tests) in
         let count = length-drop (number - first_number l) l.entries in
-        omega (arith, count, few_enough, not_above, not_before, counted, m)
+        omega (arith, count, within, not_above, not_before, counted, m)
 
 pub update_count : (s : Screen) (log : Sized) (number : ℕ) → IsScreen s → length log.log.entries ≤ log.log.number → log.most ≡ most_due s.width (height s) → length (update_changes s log number) ≤ bound_of s
 update_count s log number h counted e = due_within log.most (bound_of s) log.log number (painted_anew s) counted (most_bound s log.most e) (painted_count s h)

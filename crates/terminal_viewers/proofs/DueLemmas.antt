@@ -1,4 +1,4 @@
--- What is due after steps of a log, from a number that it has reached.
+-- The changes that are due after steps of a log, from a number that the log has reached.
 use Rattle.std.proofs.Common.{◌≡◌, ◌⊎◌, inl, inr, ℕ, ◌+◌, ◌-◌, ◌≤◌, ◌<◌, Bool, true, false, List, [], ◌∷◌, ◌++◌, length, drop, map, fold, refl, sym, ap, ◌∙◌, arith, append_assoc, append-nil, length-append, length-drop}
 use Rattle.std.specs.Prelude.{⊤, ◌==◌, ◌||◌, nat_lt, Option, Some, None, if◌then◌else◌}
 use Rattle.std.specs.Option.{option_map}
@@ -60,7 +60,7 @@ pub changes-logged : (changes : List ChangeValue) → AreChanges (map Logged cha
 changes-logged [] = tt
 changes-logged (change ∷ changes) = changes-logged changes
 
--- nothing is due any more, or what was due, and then other changes
+-- either no list is due any more, or the list that was due, with `changes` after it
 abbrev pub GoesOn : Option (List ChangeValue) → Option (List ChangeValue) → List ChangeValue → Type 0
 GoesOn before after changes = (after ≡ None) ⊎ ((first : List ChangeValue) × (before ≡ Some first) × (after ≡ Some (first ++ changes)))
 
@@ -68,7 +68,7 @@ goes_nowhere : (due : Option (List ChangeValue)) → GoesOn due due []
 goes_nowhere None = inl refl
 goes_nowhere (Some first) = inr (first, refl, ap (λ (cs : List ChangeValue). Some cs) (sym (append-nil first)))
 
--- one change was put after what was due, if it still is
+-- a list that is due after one more change is the list that was due before, with this change after it
 put_after : (b : Bool) (before : Option (List ChangeValue)) (change : ChangeValue) (first : List ChangeValue) → (if b then None else option_map (λ (cs : List ChangeValue). cs ++ change ∷ []) before) ≡ Some first
     → (shorter : List ChangeValue) × (before ≡ Some shorter) × (first ≡ shorter ++ change ∷ [])
 put_after true before change first e = cc
@@ -105,7 +105,7 @@ none_before most log number h = none_due most log number (early (number == 0) (n
     early true b c d e = refl
     early false b c d e = rw e refl
 
--- what lies before a number is forgotten by a log at which another one is due
+-- where the changes before `before` are forgotten, no list is due from an earlier number
 pub none_forgotten : (most before number : ℕ) (l : Log) → length l.entries ≤ l.number → number < before → before ≤ l.number → due most (record l { entries = drop (before - first_number l) l.entries }) number ≡ None
 none_forgotten most before number l h k m =
     let left = length-drop (before - first_number l) l.entries in

@@ -1,4 +1,4 @@
--- What is sent for changes in turn.
+-- The encodings of changes in turn.
 use Rattle.std.proofs.Common.{◌≡◌, ◌≢◌, ℕ, zero, suc, ◌<◌, false, List, [], ◌∷◌, ◌++◌, length, get_or, map, refl, sym, ap, subst, ◌∙◌, arith}
 use Rattle.std.specs.Prelude.{Option, Some, None, IfSome, option_map, option_and_then}
 use Rattle.std.specs.List.{flat_map}
@@ -16,7 +16,7 @@ use Rattle.terminal_viewers.specs.Encoding.{actions_or_none, all_encoded, encode
 
 -- ---- changes with an encoding
 
--- something is sent for one
+-- a change that has an encoding has a rendering
 pub spelled_some : (width tall : ℕ) (change : ChangeValue) → HasEncoding width tall change → rendering change width tall ≢ None
 spelled_some width tall change h none =
     all_some width tall (change ∷ []) (h, tt) (ap (λ found. option_and_then (λ first. option_map (λ remaining. first ++ remaining) (Some [])) found) none)
@@ -48,14 +48,14 @@ all_open : (width tall : ℕ) (changes : List ChangeValue) → begins_terminated
 all_open width tall [] = refl
 all_open width tall (change ∷ changes) = joined_open (encoded_for width tall change) (all_encoded width tall changes) (encoding_opens width tall change) (all_open width tall changes)
 
--- the bytes of all are those of each
+-- the bytes of changes in turn are those of each, joined
 pub texts_are : (width tall : ℕ) (changes : List ChangeValue) → stream_text (all_encoded width tall changes) ≡ encoded_texts width tall changes
 unfolding encoded_text
 texts_are width tall [] = refl
 texts_are width tall (change ∷ changes) =
     following_bytes (encoded_for width tall change) (all_encoded width tall changes) (all_open width tall changes) ∙ ap (λ rest. stream_text (encoded_for width tall change) ++ rest) (texts_are width tall changes)
 
--- what was appended was sent
+-- the appended bytes are those of each change in turn
 pub appended_encoded : (width tall : ℕ) (changes : List ChangeValue) (before after : List ℕ) → HaveEncodings width tall changes
     → option_map (λ actions. before ++ stream_text actions) (all_rendered changes width tall) ≡ Some after → after ≡ before ++ encoded_texts width tall changes
 appended_encoded width tall changes before after h e =

@@ -1,4 +1,4 @@
--- What one that answers viewers keeps, whatever it goes through; and what a viewer that waits makes of the sizes of a history, and of a look.
+-- A terminal that can answer viewers still can after any history; a waiting viewer rests after the sizes of a history, and after a look.
 use Rattle.std.proofs.Common.{◌≡◌, ℕ, ◌-◌, ◌<◌, ◌^◌, List, [], ◌∷◌, ◌++◌, length, take, map, replicate, fold, refl, sym, ap, subst, ◌∙◌, arith, append-nil, length-append, length-take}
 use Rattle.std.specs.Prelude.{⊤}
 use Rattle.std.proofs.lemmas.List.{length-replicate}
@@ -118,7 +118,7 @@ module _ (cut : AllCut) (width_of : List ℕ → ℕ) where
 
 -- ---- a viewer that waits
 
--- nothing is unfinished after a view, which has this screen
+-- the later view has this screen, and nothing is unfinished there
 pub record Rests (later : View) (screen : Screen) : Type 0 where
   pub screen_is : later.state.screen ≡ screen
   pub idle : IsIdle later
@@ -149,14 +149,14 @@ module _ (width_of : List ℕ → ℕ) where
         };
       }
 
-  -- a look changes nothing
+  -- a look changes nothing of a viewer at rest
   pub rests_after_look : (v : View) → IsIdle v → Rests (after width_of v (Look ∷ [])) v.state.screen
   rests_after_look v idle = record {
     screen_is = ap (λ (held : List ℕ). (settled width_of (record v { held = held })).state.screen) idle.run;
     idle = record { run = refl; stream = subst (λ stream. held_of stream ≡ nothing_held) (sym (append-nil v.stream)) idle.stream };
   }
 
-  -- so it is where something is forgotten
+  -- nor does forgetting
   pub rests_after_forgetting : (number : ℕ) (v : View) → IsIdle v → Rests (after width_of v (Forget number ∷ [])) v.state.screen
   rests_after_forgetting number v idle = record {
     screen_is = refl;

@@ -1,4 +1,4 @@
--- A new viewer that is fed the updates of an input shows what the terminal shows.
+-- A new viewer that is fed the updates of an input shows the terminal's screen.
 use Rattle.std.proofs.Common.{◌≡◌, ℕ, ◌+◌, ◌<◌, ◌≤◌, ◌^◌, Bool, true, false, List, [], ◌∷◌, ◌++◌, length, refl, sym, ap, subst, ◌∙◌, arith}
 use Rattle.std.specs.Prelude.{◌==◌, if◌then◌else◌}
 use Rattle.std.proofs.lemmas.List.{length-replicate}
@@ -30,7 +30,7 @@ use Rattle.terminal_viewers.proofs.DueLemmas.{steps_reach}
 use Rattle.terminal_viewers.proofs.ShowLemmas.{history_shows, shows_itself}
 use Rattle.terminal_viewers.proofs.SoundLemmas.{IsSoundScreen, new_sound, history_sound}
 
--- what a terminal keeps that updates are made of
+-- the standing of a terminal that writes updates: its state is lawful, its cells are sound, and its changes have encodings and numbers
 record Stands (width_of : List ℕ → ℕ) (s : Standing) : Type 0 where
   lawful : IsView s.view
   spelled : IsSpelledView s.view
@@ -38,12 +38,12 @@ record Stands (width_of : List ℕ → ℕ) (s : Standing) : Type 0 where
   encodings : HaveEncodings s.view.state.screen.width (height s.view.state.screen) s.log.log.entries
   counted : length s.log.log.entries ≤ s.log.log.number
 
--- what a viewer keeps that reads them
+-- a viewer that can read an update: it is ready, and nothing is unfinished there
 record Reads (viewer : View) : Type 0 where
   ready : IsReady viewer
   idle : IsIdle viewer
 
--- a viewer after an update shows its screen, and can be sent more
+-- after an update a viewer shows the terminal's screen, and can read the next update
 record HasRead (later : View) (screen : Screen) : Type 0 where
   screen_is : later.state.screen ≡ screen
   reads : Reads later

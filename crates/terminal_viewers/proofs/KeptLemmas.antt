@@ -78,7 +78,7 @@ module _ (width_of : List ℕ → ℕ) where
   logged_with replies v (Resized width tall) = refl
   logged_with replies v (Forgot number) = refl
 
-  -- the same events
+  -- views that are alike stay alike after the same events, and log the same steps
   event_alike : (a b : View) (event : Event) → AreAlike a b → AreAlike (event_done width_of a event) (event_done width_of b event)
   event_alike a b event h = subst (λ (x : View). AreAlike (event_done width_of x event) (event_done width_of b event)) (sym (same_as a b h)) (done_with a.state.replies b event)
 
@@ -126,7 +126,7 @@ module _ (width_of : List ℕ → ℕ) where
 pub due_itself : (number : ℕ) (s : Sized) → length s.log.entries ≤ s.log.number → SameIsDue number s s
 due_itself number s h = record { most = refl; count = refl; one_counted = h; other_counted = h; same = λ n l. refl }
 
--- What is due after one more change, by what was due before it: nothing above the new number, no changes at it, and below it what was due, and the change.
+-- The list due from `n` after one more change: `None` above the new number, empty at it; below it the earlier list and the change, if at most `most`.
 abbrev due_next : Bool → Bool → ℕ → ℕ → ChangeValue → ℕ → Option (List ChangeValue) → Option (List ChangeValue)
 due_next is_past is_new most count change n before =
     if is_past then (if is_new then Some [] else None)
@@ -194,7 +194,7 @@ forgotten_same number later a b l h = record {
 pub answers_itself : (number : ℕ) (s : Standing) → length s.log.log.entries ≤ s.log.log.number → AnswersAs number s s
 answers_itself number s h = record { views = alike_itself s.view; logs = due_itself number s.log h }
 
--- bytes are fed, and looks taken
+-- they answer alike after bytes are fed and looks taken
 pub answers_after : (width_of : List ℕ → ℕ) (number : ℕ) (kept whole : Standing) (history : History) → AreFed history → AnswersAs number kept whole → AnswersAs number (standing_after width_of kept history) (standing_after width_of whole history)
 answers_after width_of number kept whole history f h = record {
   views = after_alike width_of history kept.view whole.view h.views;
@@ -202,18 +202,18 @@ answers_after width_of number kept whole history f h = record {
       (steps_same number (logged width_of whole.view history) kept.log whole.log (events_change width_of whole.view.stream history f whole.view) h.logs);
 }
 
--- the replies are taken
+-- they answer alike after the replies of one are taken
 pub answers_with_replies : (number : ℕ) (kept whole : Standing) (replies : List ℕ) → AnswersAs number kept whole → AnswersAs number (record kept { view = with_replies replies kept.view }) whole
 answers_with_replies number kept whole replies h = record { views = record { screen = h.views.screen; saved = h.views.saved; stream = h.views.stream; held = h.views.held }; logs = h.logs }
 
--- the changes before a later number are forgotten
+-- they answer alike, from a later number on, after one forgets the changes before that number
 pub answers_after_forget : (width_of : List ℕ → ℕ) (number later : ℕ) (kept whole : Standing) → number ≤ later → AnswersAs number kept whole → AnswersAs later (standing_after width_of kept (Forget later ∷ [])) whole
 answers_after_forget width_of number later kept whole l h = record {
   views = record { screen = h.views.screen; saved = h.views.saved; stream = append-nil kept.view.stream ∙ h.views.stream; held = h.views.held };
   logs = forgotten_same number later kept.log whole.log l h.logs;
 }
 
--- so the same updates are sent
+-- so both have the same updates from the number on
 pub answers_alike : (number : ℕ) (kept whole : Standing) → AnswersAs number kept whole → (n : ℕ) → number ≤ n → update_of kept.view.state.screen kept.log n ≡ update_of whole.view.state.screen whole.log n
 answers_alike number kept whole h n l =
     λ i. let screen = h.views.screen i in bytes_of (all_rendered (due_or (painted_anew screen) (h.logs.same n l i)) screen.width (height screen))

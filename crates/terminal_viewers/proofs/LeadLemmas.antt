@@ -23,7 +23,7 @@ use Rattle.terminal_viewers.specs.Shows.{replayed_on}
 use Rattle.terminal_viewers.specs.Update.{display_on, last_cell, written_again}
 use Rattle.terminal_viewers.proofs.PositionLemmas.{column_is, row_is, written_is}
 
--- ---- what is taken of the laws of differences
+-- ---- premises: laws of differences
 
 abbrev pub DifferencesKeepRest : Type 0
 DifferencesKeepRest = (width_of : List ℕ → ℕ) (display : Display) (cells : List PlacedCell) → IsDisplay display → HavePositions width_of display.screen.width (height display.screen) cells

@@ -1,4 +1,4 @@
--- The changes that paint a screen anew, and what they leave where they are replayed.
+-- The changes that paint a screen anew, and the display to which their replay leads.
 use Rattle.std.proofs.Common.{◌≡◌, ℕ, ◌-◌, ◌<◌, Bool, true, false, List, [], ◌∷◌, ◌++◌, length, map, refl, sym, ap, ◌∙◌, subst, arith, append-nil}
 use Rattle.std.specs.Prelude.{All, ⊤, ◌==◌, ◌&&◌, min, not, Option, Some, None, if◌then◌else◌}
 use Rattle.std.specs.List.{flat_map}
@@ -33,7 +33,7 @@ use Rattle.terminal_viewers.proofs.PositionLemmas.{row_is, written_is}
 
 -- ---- the changes of rows
 
--- attributes, texts, clears of what follows, and moves to the first column
+-- the changes of rows: attributes, texts, clears to the end of a line or of the screen, and moves to the first column
 abbrev pub IsOfRow : ChangeValue → Type 0
 IsOfRow (AllAttributes attributes) = ⊤
 IsOfRow (Text text) = ⊤
@@ -99,14 +99,14 @@ rows_of_row pen (row ∷ below) =
     by_answer true own rest p q = p
     by_answer false own rest p q = of_row_append own rest p q
 
--- what is made of each of them the same way is made of all
+-- functions that agree on each change of a row agree on lists of them
 pub each_of_row : (f g : ChangeValue → List ChangeValue) → ((change : ChangeValue) → IsOfRow change → f change ≡ g change) → (changes : List ChangeValue) → AreOfRow changes → flat_map f changes ≡ flat_map g changes
 each_of_row f g same [] p = refl
 each_of_row f g same (change ∷ changes) p = λ i. same change p.0 i ++ each_of_row f g same changes p.1 i
 
--- ---- the changes that are sent otherwise
+-- ---- the changes in the form that can be encoded
 
--- none of a row, as the width isn't 0
+-- the changes of a row stay as they are, as the width isn't 0
 pub encoded_of_row : (s : Screen) → 0 < s.width → (change : ChangeValue) → IsOfRow change → as_encoded s change ≡ change ∷ []
 encoded_of_row s wide (CursorPosition (Absolute column) y) p =
     let not_there : (column == s.width) ≡ false = grind (arith, nat_tests) in
@@ -127,7 +127,7 @@ shown_encoded : (s : Screen) (visible : Bool) → flat_map (as_encoded s) (curso
 shown_encoded s true = refl
 shown_encoded s false = refl
 
--- the parts of what paints a screen anew
+-- the parts of the changes that paint a screen anew
 abbrev pub painted_rows : Screen → List ChangeValue
 painted_rows s = rows_painted plain s.rows
 
@@ -140,7 +140,7 @@ position_of s = cursor_placed (are_some (painted_rows s)) s.column s.row
 abbrev pub due_of : Screen → List ChangeValue
 due_of s = attributes_due (pen_left plain (painted_rows s)) s.pen
 
--- only the position of the cursor is sent otherwise
+-- only the position of the cursor takes another form
 pub encoded_is : (s : Screen) → 0 < s.width → painted_anew s ≡ prefix_of s ++ flat_map (as_encoded s) (position_of s) ++ due_of s ++ cursor_shown s.visible None
 encoded_is s wide =
     let f : ChangeValue → List ChangeValue = as_encoded s in
@@ -201,7 +201,7 @@ module _ (width_of : List ℕ → ℕ) where
       by_answer false true = refl
       by_answer false false = refl
 
-  -- and where they are replayed after the pen's attributes, the pen has these
+  -- replayed after the pen was set to `a`, they leave the pen `a`
   after_pen : (e f : Display) (pen a : Attributes) (visible : Bool) → f.screen ≡ with_pen a e.screen
       → (replay width_of (replay width_of f (attributes_due pen a)) (cursor_shown visible None)).screen ≡ with_pen a (replay width_of (replay width_of e (attributes_due pen a)) (cursor_shown visible None)).screen
   after_pen e f pen a visible same = by_answer (same_attributes a pen) visible

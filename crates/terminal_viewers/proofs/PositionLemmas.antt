@@ -1,4 +1,4 @@
--- The last cell of a row, written once more where it stands.
+-- The last cell of a row, written once more at its position.
 use Rattle.std.proofs.Common.{◌≡◌, ℕ, ◌+◌, ◌-◌, ◌<◌, ◌≤◌, Bool, true, false, List, [], ◌∷◌, ◌++◌, length, get_or, set, drop, map, refl, sym, ap, ◌∙◌, subst, arith, append-nil, length-append}
 use Rattle.std.specs.Prelude.{◌==◌, min, nat_le, Option, Some, None, fold, if◌then◌else◌}
 use Rattle.std.proofs.lemmas.Bool.Decides.{nat_tests}
@@ -29,7 +29,7 @@ use Rattle.terminal_viewers.specs.Update.{last_cell, written_again}
 abbrev pub cell_columns : VisibleCell → Row
 cell_columns v = columns_of v.cell.text (nat_le 2 v.cell.width) v.cell.attributes
 
--- a row whose first column has a number ends in a cell: its columns follow whole ones
+-- a row, whose first column is `at`, ends in a cell, whose columns follow whole ones
 pub record LastCell (width_of : List ℕ → ℕ) (at : ℕ) (row : Row) : Type 0 where
   pub cell : VisibleCell
   pub before : Row
@@ -87,7 +87,7 @@ columns_count : (text : List ℕ) (wide : Bool) (a : Attributes) → 0 < length 
 columns_count text true a = omega arith
 columns_count text false a = omega arith
 
--- columns that are set where they stand, after whole ones and at the end
+-- columns at the end of a row, after whole ones, that are set once more leave the row as it is
 pub set_again : (before columns : Row) → IsWhole before → set_columns (before ++ columns) (length before) columns ≡ before ++ columns
 set_again before columns w =
     let row : Row = before ++ columns in
@@ -128,7 +128,7 @@ row_is size from row h = omega arith
 
 -- ---- the last cell of the cursor's row, written once more
 
--- on a display with its rows it leaves these, the cursor after the last column, and the pen
+-- on a display with the screen's rows the changes keep the rows, put the cursor after the last column of its row, and set the pen
 pub written_is : (width_of : List ℕ → ℕ) (s : Screen) (d : Display) → IsDisplay d → IsSoundDisplay width_of d → d.screen.rows ≡ s.rows → s.row < length s.rows
     → replay width_of d (written_again s (last_cell (cursor_row s))) ≡ on_screen (λ t. record t { column = t.width; row = s.row; pen = s.pen }) d
 written_is width_of s d h sound rows in_rows =

@@ -1,4 +1,4 @@
--- What a patch prints: the fresh cells, and where a wrap is pending the last cell of the cursor's row once more.
+-- The texts that a patch prints: the fresh cells, and where a wrap is pending the last cell of the cursor's row once more.
 use Rattle.std.proofs.Common.{◌≡◌, ℕ, ◌+◌, ◌-◌, ◌<◌, ◌^◌, Bool, true, false, List, [], ◌∷◌, ◌++◌, length, map, refl, sym, ap, subst, ◌∙◌, arith, append-nil, length-append}
 use Rattle.std.specs.Prelude.{⊤, ◌==◌, ◌||◌, min, nat_le, Option, Some, None, IfSome, option_map, if◌then◌else◌}
 use Rattle.std.specs.List.{AllByRecursion, flat_map}
@@ -72,7 +72,7 @@ pub patch_is : (old new : Screen) → IsDisplay (display_on old) → IsDisplay (
 patch_is old new g h wide p =
     each_of_patch new.width IsOfPatch (λ text q. (q.printed, q.spelled.utf8)) (λ pen q. tt) (λ column row lt. tt) (λ title q. tt) (λ visible. tt) old new refl g h wide p
 
--- ---- what is sent for each
+-- ---- the texts that the rendering of each kind prints
 
 abbrev IfQuiet : Option (List StreamAction) → Type 0
 IfQuiet found = IfSome found AreQuiet
@@ -158,7 +158,7 @@ module _ (f : List ℕ → ℕ) where
   no_second false b e = e
   no_second true b e = cc
 
-  -- a terminal at which a change had its effect can be sent more
+  -- a terminal that is ready for an encoding is ready after the change's effect as well
   ready_after : (v : View) (d : Display) (change : ChangeValue) → IsReady v → IsDisplay d → d.screen ≡ v.state.screen → IsReady (with_change f v d change)
   ready_after v d change ready h same =
       let lawful = effect_is f d change h in
@@ -167,7 +167,7 @@ module _ (f : List ℕ → ℕ) where
       let tall : height (effect f d change).screen ≡ height v.state.screen = size.tall ∙ ap (λ (s : Screen). height s) same in
       record { lawful = record { lawful = lawful.lawful; whole = lawful.whole }; width = subst (λ n. n < 2 ^ 32) (sym width) ready.width; height = subst (λ n. n < 2 ^ 32) (sym tall) ready.height; run = ready.run }
 
-  -- and so do changes in turn
+  -- the changes of a patch, in turn, print their texts
   pub changes_send : (v : View) (d : Display) (changes : List ChangeValue) (actions : List StreamAction) → IsReady v → IsDisplay d → d.screen ≡ v.state.screen → AreOfPatch changes → texts_scroll f d changes ≡ false
       → all_rendered changes v.state.screen.width (height v.state.screen) ≡ Some actions → Sends f v actions (changes_print f d changes)
   changes_send v d [] actions ready h same p still e = let none : [] ≡ actions = cc in subst (λ xs. Sends f v xs []) none (none_sends f v)
@@ -188,9 +188,9 @@ module _ (f : List ℕ → ℕ) where
       subst (λ xs. Sends f v xs (changes_print f d (change ∷ changes))) (sym found.are)
       (both_send f v found.first found.remaining (strokes_print f d.screen (change_strokes change)) (changes_print f (effect f d change) changes) own remaining)
 
--- ---- what the changes of a patch print
+-- ---- the texts that the changes of a patch print
 
--- the laws of what differences print
+-- premises: laws of the texts that differences print
 abbrev pub DifferencesPrintCells : Type 0
 DifferencesPrintCells = (width_of : List ℕ → ℕ) (display : Display) (cells : List PlacedCell) → IsDisplay display → HavePositions width_of display.screen.width (height display.screen) cells → changes_print width_of display (difference cells) ≡ map text_of cells
 
@@ -232,7 +232,7 @@ module _ (keeps : DifferencesKeepRest) (positions : RegionsHavePositions) (shows
     drawn_rows : drawn.screen.rows ≡ new.rows
     drawn_rows = lead.drawn_rows keeps positions shows f old new narrow g h sound wide tall
 
-    -- what is printed for the cursor's position
+    -- the changes for the cursor's position print its text, and don't scroll
     record Placed : Type 0 where
       prints : changes_print f drawn (position_and_pen new) ≡ position_prints new
       still : texts_scroll f drawn (position_and_pen new) ≡ false

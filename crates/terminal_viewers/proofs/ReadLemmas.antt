@@ -29,9 +29,9 @@ use Rattle.terminal_table.specs.Meaning.{View, event_done}
 use Rattle.terminal_table.proofs.RunLemmas.{no_clusters}
 use Rattle.terminal_viewers.specs.Shows.{replayed_on}
 use Rattle.terminal_viewers.specs.Update.{display_on}
-use Rattle.terminal_viewers.proofs.ViewerLemmas.{CanFollow, Encoded, SpelledChangesAreWritable, changes_are_shown, changes_leave_idle, sent}
+use Rattle.terminal_viewers.proofs.ViewerLemmas.{CanFollow, Encoded, SpelledChangesAreWritable, changes_are_shown, changes_leave_idle, encoded_changes}
 
--- ---- what is taken of the laws of patches
+-- ---- premises: laws of patches
 
 abbrev pub PatchesLead : Type 0
 PatchesLead = (width_of : List ℕ → ℕ) (old : Screen) (new : Screen) → width_of space ≡ 1 → IsDisplay (display_on old) → IsDisplay (display_on new) → IsSoundDisplay width_of (display_on new) → old.width ≡ new.width → height old ≡ height new
@@ -63,7 +63,7 @@ module _ (leads : PatchesLead) (spells : PatchesHaveEncodings) (writes : Spelled
   patch_leaves_idle idles width_of viewer screen can =
       changes_leave_idle writes width_of viewer screen (patch_changes viewer.state.screen screen) (can_follow width_of viewer screen can) idles
 
-  -- ---- what is printed
+  -- ---- the texts that are printed
 
   module _ (keeps : DifferencesKeepRest) (positions : RegionsHavePositions) (shows : ScreensAreShown) (print : DifferencesPrintCells) (calm : DifferencesAreStill) (join : PrintsJoin) (still_join : StillJoin)
       (whole : (stream : List ℕ) → held_of stream ≡ nothing_held → tail_of stream ≡ Begun []) (reads : WritableListsReadOn) (idles : PatchesLeaveIdle) where
@@ -78,7 +78,7 @@ module _ (leads : PatchesLead) (spells : PatchesHaveEncodings) (writes : Spelled
       shown = display_on_is viewer.state can.ready.lawful
 
       s : Encoded viewer screen changes
-      s = sent writes f viewer screen changes (can_follow f viewer screen can)
+      s = encoded_changes writes f viewer screen changes (can_follow f viewer screen can)
 
       abbrev texts : List PlacedText
       texts = changes_print f (display_on old) changes

@@ -147,7 +147,7 @@ all_rest : (s : Screen) (xs : List ChangeValue) → HaveEncodings s.width (heigh
 all_rest s [] p = tt
 all_rest s (x ∷ xs) p = (inl p.0, all_rest s xs p.1)
 
--- what stands before the cursor's position: a clear with the cursor hidden, the title, and the rows
+-- the changes before the cursor's position: a clear with the cursor hidden, the title, and the rows
 abbrev prefix_of : Display → List ChangeValue
 prefix_of d = (CursorVisibility Hidden ∷ ClearScreen attribute.Default ∷ []) ++ title_due d.screen.title ++ rows_painted plain d.screen.rows
 

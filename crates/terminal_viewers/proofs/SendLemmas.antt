@@ -1,4 +1,4 @@
--- The changes of a patch, of which each part is sent as it comes.
+-- The changes of a patch, whose parts are encoded one after another.
 use Rattle.std.proofs.Common.{◌≡◌, ℕ, Bool, List, [], ◌∷◌, ◌++◌, sym, ap, subst, ◌∙◌, append_assoc, append-nil}
 use Rattle.std.proofs.lemmas.List.Concat.{flat_map-append}
 use Rattle.cell_base.specs.declared.attributes.CursorVisibility.{CursorVisibility as Visibility}
@@ -23,7 +23,7 @@ pub visibility_is : (v : Visibility) (visible : Bool) → is_visible v ≡ visib
 visibility_is Visible visible e = ap visibility e
 visibility_is Hidden visible e = ap visibility e
 
--- the changes of a patch from what one display shows to what another shows
+-- each change of a patch from one display to another has an encoding
 pub spelled : (shown d : Display) → IsDisplay shown → IsDisplay d → shown.screen.width ≡ d.screen.width → height shown.screen ≡ height d.screen → IsSpelledScreen d.screen
     → HaveEncodings d.screen.width (height d.screen) (patch_changes shown.screen d.screen)
 spelled shown d g h wide tall p = patch_has shown.screen d.screen (on_display shown g) (on_display d h) wide tall p
@@ -56,17 +56,17 @@ module _ (old new : Screen) (width tall : ℕ) (w : width ≡ new.width) (t : ta
   abbrev text : ChangeValue → List ℕ
   text change = encoded_text width tall change
 
-  abbrev sent : List ChangeValue → List ℕ
-  sent changes = encoded_texts width tall changes
+  abbrev bytes_of_changes : List ChangeValue → List ℕ
+  bytes_of_changes changes = encoded_texts width tall changes
 
   -- the bytes after each part
-  pub patch_encoded : (start titled drawn placed made : List ℕ) → start ≡ [] → titled ≡ start ++ text (Title new.title) → drawn ≡ titled ++ sent cells → placed ≡ drawn ++ sent (position_and_pen new) → made ≡ placed ++ text seen
+  pub patch_encoded : (start titled drawn placed made : List ℕ) → start ≡ [] → titled ≡ start ++ text (Title new.title) → drawn ≡ titled ++ bytes_of_changes cells → placed ≡ drawn ++ bytes_of_changes (position_and_pen new) → made ≡ placed ++ text seen
       → made ≡ patch_of old new
   patch_encoded start titled drawn placed made none a b c d =
       d
-      ∙ ap (λ bytes. bytes ++ text seen) (c ∙ ap (λ bytes. bytes ++ sent (position_and_pen new)) (b ∙ ap (λ bytes. bytes ++ sent cells) (a ∙ ap (λ bytes. bytes ++ text (Title new.title)) none)))
-      ∙ ap (λ bytes. bytes ++ text seen) (append_assoc (text (Title new.title)) (sent cells) (sent (position_and_pen new)))
-      ∙ append_assoc (text (Title new.title)) (sent cells ++ sent (position_and_pen new)) (text seen)
+      ∙ ap (λ bytes. bytes ++ text seen) (c ∙ ap (λ bytes. bytes ++ bytes_of_changes (position_and_pen new)) (b ∙ ap (λ bytes. bytes ++ bytes_of_changes cells) (a ∙ ap (λ bytes. bytes ++ text (Title new.title)) none)))
+      ∙ ap (λ bytes. bytes ++ text seen) (append_assoc (text (Title new.title)) (bytes_of_changes cells) (bytes_of_changes (position_and_pen new)))
+      ∙ append_assoc (text (Title new.title)) (bytes_of_changes cells ++ bytes_of_changes (position_and_pen new)) (text seen)
       ∙ ap (λ bytes. text (Title new.title) ++ bytes)
       ((λ i. sym (flat_map-append text cells (position_and_pen new)) i ++ sym (append-nil (text seen)) i) ∙ sym (flat_map-append text (cells ++ position_and_pen new) (seen ∷ [])))
       ∙ (λ i. encoded_texts (w i) (t i) (patch_changes old new))

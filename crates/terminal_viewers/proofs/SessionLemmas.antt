@@ -76,7 +76,7 @@ module _ (cut : AllCut) (shown : UpdatesAreShown) (idles : UpdatesLeaveIdle) (pa
     session_keeps [] chain h c = c
     session_keeps (turn ∷ turns) chain h c = session_keeps turns (turned width_of chain turn) (All-tail IsTurn turn turns h) (turn_keeps chain turn (All-head IsTurn turn turns h) c)
 
-    -- where so many viewers show the terminal, those that are answered after them do as well
+    -- where the first `at` viewers show the terminal's screen, the viewers that a round answers after them do as well
     round_shows : (answers : List Answer) (at : ℕ) (chain : Chain) → IsChain width_of chain.terminal chain.viewers → AllShow chain.terminal.view.state.screen (take at chain.viewers)
         → let last = session width_of chain (round at answers) in AllShow last.terminal.view.state.screen (take (at + length answers) last.viewers)
     round_shows [] at chain c h =

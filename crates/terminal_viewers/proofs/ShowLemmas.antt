@@ -1,4 +1,4 @@
--- What screens show of others goes on as changes are logged, sizes are taken on and changes are forgotten.
+-- A screen that shows a terminal at a number goes on showing it, as changes are logged, sizes are taken on and changes are forgotten.
 use Rattle.std.proofs.Common.{◌≡◌, ◌⊎◌, inl, inr, ℕ, ◌+◌, ◌-◌, ◌≤◌, ◌<◌, Bool, true, false, List, [], ◌∷◌, ◌++◌, length, drop, map, fold, refl, sym, ap, subst, ◌∙◌, arith}
 use Rattle.std.specs.Prelude.{◌==◌, ◌||◌, nat_le, nat_lt, Option, Some, IfSome, if◌then◌else◌}
 use Rattle.std.proofs.lemmas.Bool.Decides.{leb_tells, nat_tests}
@@ -57,7 +57,7 @@ shows_itself width_of screen s h = record { wide = refl; tall = refl; leads = by
 -- ---- changes that are logged
 
 module _ (width_of : List ℕ → ℕ) where
-  -- what changes lead to, if there are any
+  -- the changes, if there are any, lead from one screen to the other
   abbrev LeadsTo : Screen → Screen → Option (List ChangeValue) → Type 0
   LeadsTo shown screen changes = IfSome changes (λ cs. replayed_on width_of shown cs ≡ screen)
 
@@ -86,7 +86,7 @@ module _ (width_of : List ℕ → ℕ) where
 
   -- ---- another size
 
-  -- an empty log: what is due leads nowhere, so both screens are the same
+  -- an empty log: if changes are due, there are none of them, so both screens are equal
   empty_leads : (width tall most next number n : ℕ) (shown screen : Screen) → number ≤ n → LeadsTo shown screen (due most (record { number = n; entries = [] }) number)
       → LeadsTo (resized_screen width tall shown) (resized_screen width tall screen) (due next (record { number = n; entries = [] }) number)
   empty_leads width tall most next number n shown screen h l = by_test (is_none_due next (record { number = n; entries = [] }) number) refl
@@ -143,7 +143,7 @@ module _ (width_of : List ℕ → ℕ) where
   repeated_at (Resized width height) screen = resized_screen width height screen
   repeated_at (Forgot number) screen = screen
 
-  -- what is logged for bytes that are fed, and for a look, are changes alone
+  -- for bytes that are fed, and for a look, only changes are logged
   pub run_changes : (v : View) → AreChanges (run_logged v)
   run_changes v = by_test (length v.held == 0)
     where

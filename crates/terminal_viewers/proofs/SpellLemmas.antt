@@ -26,7 +26,7 @@ use Rattle.terminal_viewers.proofs.PaintLemmas.{due_of, prefix_of, painted_rows,
 
 -- ---- the last cell of a row
 
--- a cell with such a text and such attributes, before a column, if there is one
+-- the cell, if there is one, has a text and attributes with an encoding, and a column less than `bound`
 abbrev pub IsSpelledCell : ℕ → Option VisibleCell → Type 0
 IsSpelledCell bound None = ⊤
 IsSpelledCell bound (Some v) = IsSpelledRun v.cell.text × IsSpelledPen v.cell.attributes × (v.column < bound)

@@ -1,4 +1,4 @@
--- What is sent for the changes that are due, or for a repaint, is the update.
+-- The update is the encoding of the changes that are due, or of a repaint.
 use Rattle.std.proofs.Common.{◌≡◌, ℕ, ◌++◌, List, [], ◌∷◌, sym, ap, ◌∙◌, subst}
 use Rattle.std.specs.Prelude.{IfSome, Option, Some, None}
 use Rattle.std.specs.List.{flat_map}
@@ -18,7 +18,7 @@ use Rattle.terminal_viewers.specs.Update.{bytes_of, display_on, due_or, painted_
 use Rattle.terminal_viewers.proofs.EncodedLemmas.{all_are_encoded, texts_are}
 use Rattle.terminal_viewers.proofs.SpellLemmas.{painted_has}
 
--- ---- changes that are due are lent, and where none are the repaint is made
+-- ---- the changes that are due are lent; where none are due, the repaint is made
 
 -- a display's screen by itself
 pub on_display : (d : Display) → IsDisplay d → IsDisplay (display_on d.screen)
@@ -32,7 +32,7 @@ module _ (d : Display) (log : Sized) (number : ℕ) (width tall : ℕ) (w : widt
   lent_spelled lent e kept = at_size lent (subst (λ o. IfSome o (HaveEncodings d.screen.width (height d.screen))) (sym e) (due_has d.screen.width (height d.screen) log.most log.log number kept))
 
   pub lent_encoded : (before after : List ℕ) (lent : List ChangeValue) → Some lent ≡ due log.most log.log number → after ≡ before ++ encoded_texts width tall lent → after ≡ before ++ encoded_texts width tall (update_changes d.screen log number)
-  lent_encoded before after lent e sent = sent ∙ ap (λ found. before ++ encoded_texts width tall (due_or (painted_anew d.screen) found)) e
+  lent_encoded before after lent e appended = appended ∙ ap (λ found. before ++ encoded_texts width tall (due_or (painted_anew d.screen) found)) e
 
   module _ (h : IsDisplay d) (shapeless : d.shape ≡ None) (none : None ≡ due log.most log.log number) (made : List ChangeValue) (are : made ≡ repaint_with (Title d.screen.title ∷ []) d) where
     anew : flat_map (as_encoded d.screen) made ≡ painted_anew d.screen
@@ -42,12 +42,12 @@ module _ (d : Display) (log : Sized) (number : ℕ) (width tall : ℕ) (w : widt
     made_spelled p = subst (HaveEncodings width tall) (sym anew) (at_size (painted_anew d.screen) (painted_has d.screen (on_display d h) p))
 
     pub made_encoded : (before after : List ℕ) → after ≡ before ++ encoded_texts width tall (flat_map (as_encoded d.screen) made) → after ≡ before ++ encoded_texts width tall (update_changes d.screen log number)
-    made_encoded before after sent = sent ∙ ap (λ (cs : List ChangeValue). before ++ encoded_texts width tall cs) anew ∙ ap (λ found. before ++ encoded_texts width tall (due_or (painted_anew d.screen) found)) none
+    made_encoded before after appended = appended ∙ ap (λ (cs : List ChangeValue). before ++ encoded_texts width tall cs) anew ∙ ap (λ found. before ++ encoded_texts width tall (due_or (painted_anew d.screen) found)) none
 
 -- ---- the bytes
 
 pub encoded_bytes : (d : Display) (log : Sized) (number : ℕ) (made start : List ℕ) (width tall : ℕ) → width ≡ d.screen.width → tall ≡ height d.screen → HaveEncodings d.screen.width (height d.screen) (update_changes d.screen log number)
     → start ≡ [] → made ≡ start ++ encoded_texts width tall (update_changes d.screen log number) → made ≡ update_of d.screen log number
-encoded_bytes d log number made start width tall w t h none sent =
+encoded_bytes d log number made start width tall w t h none appended =
     let changes : List ChangeValue = update_changes d.screen log number in
-    sent ∙ (λ i. none i ++ encoded_texts (w i) (t i) changes) ∙ sym (texts_are d.screen.width (height d.screen) changes) ∙ sym (ap bytes_of (all_are_encoded d.screen.width (height d.screen) changes h))
+    appended ∙ (λ i. none i ++ encoded_texts (w i) (t i) changes) ∙ sym (texts_are d.screen.width (height d.screen) changes) ∙ sym (ap bytes_of (all_are_encoded d.screen.width (height d.screen) changes h))

@@ -1,4 +1,4 @@
--- A viewer that is fed an update shows the screen of which it is; and so where other changes lead to a screen.
+-- A viewer that is fed an update shows the update's screen; so it does with the encoding of any changes that lead to a screen.
 use Rattle.std.proofs.Common.{◌≡◌, ◌≢◌, ℕ, ◌<◌, ◌^◌, List, [], ◌∷◌, length, refl, sym, ap, subst, ◌∙◌, arith}
 use Rattle.std.specs.Prelude.{Option, Some, None, IfSome}
 use Rattle.cell_base.specs.Row.{space}
@@ -25,7 +25,7 @@ use Rattle.terminal_viewers.specs.Shows.{replayed_on}
 use Rattle.terminal_viewers.specs.Update.{display_on, painted_anew, due_or, update_changes, bytes_of}
 use Rattle.terminal_viewers.specs.Viewers.{CanRead, UpdatesAreShown, UpdatesLeaveIdle}
 
--- ---- what is taken of other laws
+-- ---- premises: other laws
 
 -- the screen painted anew is painted on any display of its size
 abbrev pub UpdatesPaintTheScreen : Type 0
@@ -37,19 +37,19 @@ abbrev pub UpdatesHaveEncodings : Type 0
 UpdatesHaveEncodings = (screen : Screen) (log : Sized) (number : ℕ) → IsDisplay (display_on screen) → IsSpelledScreen screen → HaveEncodings screen.width (height screen) log.log.entries
     → HaveEncodings screen.width (height screen) (update_changes screen log number)
 
--- what is sent for such changes reads back
+-- the encoding of changes that each have one reads back
 abbrev pub SpelledChangesAreWritable : Type 0
 SpelledChangesAreWritable = (width height : ℕ) (changes : List ChangeValue) (actions : List StreamAction) → IsScreenSize width height → HaveEncodings width height changes
     → all_rendered changes width height ≡ Some actions → IsWritable actions
 
 -- ---- changes that lead to a screen
 
--- what stands in an option that isn't none
+-- the value of an option that isn't `None`
 there : {A : Type 0} (found : Option A) → found ≢ None → (x : A) × (found ≡ Some x)
 there None h = absurd (h refl)
 there (Some x) h = (x, refl)
 
--- Changes that lead a viewer to a screen of its size: it can be sent changes, nothing is unfinished there, and they have an encoding.
+-- Changes that lead a viewer to a screen of its size: it is ready, nothing is unfinished there, and the changes have encodings.
 pub record CanFollow (width_of : List ℕ → ℕ) (viewer : View) (screen : Screen) (changes : List ChangeValue) : Type 0 where
   pub ready : IsReady viewer
   pub idle : IsIdle viewer
@@ -63,7 +63,7 @@ pub record CanFollow (width_of : List ℕ → ℕ) (viewer : View) (screen : Scr
 abbrev pub bytes_for : Screen → List ChangeValue → List ℕ
 bytes_for screen changes = bytes_of (all_rendered changes screen.width (height screen))
 
--- what is sent for them
+-- the rendering of these changes, and its bytes, which read back
 pub record Encoded (viewer : View) (screen : Screen) (changes : List ChangeValue) : Type 0 where
   pub actions : List StreamAction
   pub rendered : all_rendered changes viewer.state.screen.width (height viewer.state.screen) ≡ Some actions
@@ -74,8 +74,8 @@ some_row : (screen : Screen) → IsDisplay (display_on screen) → 0 < height sc
 some_row screen h = let k = h.lawful.row_in in omega arith
 
 module _ (writes : SpelledChangesAreWritable) (width_of : List ℕ → ℕ) (viewer : View) (screen : Screen) (changes : List ChangeValue) (can : CanFollow width_of viewer screen changes) where
-  pub sent : Encoded viewer screen changes
-  sent =
+  pub encoded_changes : Encoded viewer screen changes
+  encoded_changes =
       let found = there (all_rendered changes screen.width (height screen)) (all_some screen.width (height screen) changes can.spelled) in
       record {
         actions = found.0;
@@ -88,16 +88,16 @@ module _ (writes : SpelledChangesAreWritable) (width_of : List ℕ → ℕ) (vie
 
   pub changes_are_shown : ListTextsHaveTheEffect → (after width_of viewer (Piece (bytes_for screen changes) ∷ [])).state ≡ record viewer.state { screen = screen }
   changes_are_shown texts =
-      ap (λ bytes. (after width_of viewer (Piece bytes ∷ [])).state) sent.bytes
-      ∙ ap (λ (v : View). v.state) (texts width_of viewer (display_on viewer.state.screen) changes sent.actions can.ready can.idle sent.writable (display_on_is viewer.state can.ready.lawful) refl sent.rendered)
+      ap (λ bytes. (after width_of viewer (Piece bytes ∷ [])).state) encoded_changes.bytes
+      ∙ ap (λ (v : View). v.state) (texts width_of viewer (display_on viewer.state.screen) changes encoded_changes.actions can.ready can.idle encoded_changes.writable (display_on_is viewer.state can.ready.lawful) refl encoded_changes.rendered)
       ∙ ap (λ x. record viewer.state { screen = x }) can.leads
 
   pub changes_leave_idle : ListTextsLeaveIdle → IsIdle (after width_of viewer (Piece (bytes_for screen changes) ∷ []))
   changes_leave_idle idles =
-      subst (λ bytes. IsIdle (after width_of viewer (Piece bytes ∷ []))) (sym sent.bytes)
-      (idles width_of viewer (display_on viewer.state.screen) changes sent.actions can.ready can.idle sent.writable (display_on_is viewer.state can.ready.lawful) refl sent.rendered)
+      subst (λ bytes. IsIdle (after width_of viewer (Piece bytes ∷ []))) (sym encoded_changes.bytes)
+      (idles width_of viewer (display_on viewer.state.screen) changes encoded_changes.actions can.ready can.idle encoded_changes.writable (display_on_is viewer.state can.ready.lawful) refl encoded_changes.rendered)
 
--- ---- updates do so
+-- ---- updates are changes of this kind
 
 module _ (paints : UpdatesPaintTheScreen) (spells : UpdatesHaveEncodings) where
   can_follow : (width_of : List ℕ → ℕ) (viewer : View) (screen : Screen) (log : Sized) (number : ℕ) → CanRead width_of viewer screen log number → CanFollow width_of viewer screen (update_changes screen log number)

@@ -1,4 +1,4 @@
--- Surfaces whose changes can all be sent.
+-- Surfaces whose changes all have an encoding.
 use Rattle.std.specs.Prelude.{◌≡◌, ◌<◌, ◌^◌, false, None}
 use Rattle.cell_base.specs.Screen.{height}
 use Rattle.cell_surface.specs.Surface.{Surface, shown_by}

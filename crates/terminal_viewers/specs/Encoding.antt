@@ -1,4 +1,4 @@
--- The actions that are sent for changes, one after another.
+-- The actions that encode changes, one after another.
 use Rattle.std.specs.Prelude.{ℕ, ◌==◌, Bool, false, List, [], Option, Some, None}
 use Rattle.std.specs.List.{flat_map}
 use Rattle.cell_base.specs.declared.attributes.Position.TheVariants.{Absolute}
@@ -12,7 +12,7 @@ abbrev pub actions_or_none : Option (List StreamAction) → List StreamAction
 actions_or_none None = []
 actions_or_none (Some actions) = actions
 
--- the actions that are sent for a change to a terminal of a width and a height, and for changes in turn
+-- the actions that encode a change for a terminal of a width and a height, and those of changes in turn
 unfoldable pub encoded_for : ℕ → ℕ → ChangeValue → List StreamAction
 encoded_for width height change = actions_or_none (rendering change width height)
 

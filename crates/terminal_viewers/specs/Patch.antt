@@ -26,7 +26,7 @@ patch_changes old new =
     Title new.title ∷ difference (screen_fresh old new) ++ position_and_pen new
     ++ CursorVisibility (visibility new.visible) ∷ []
 
--- the patch: the bytes of what is sent for these changes in turn
+-- the patch: the bytes that encode these changes in turn
 abbrev pub patch_of : Screen → Screen → List ℕ
 patch_of old new = bytes_of (all_rendered (patch_changes old new) new.width (height new))
 

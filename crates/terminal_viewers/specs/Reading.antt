@@ -15,7 +15,7 @@ use Rattle.terminal_table.specs.History.{Piece}
 use Rattle.terminal_table.specs.Meaning.{View, after}
 use Rattle.terminal_viewers.specs.Update.{display_on}
 
--- What a patch is sent to and of: a viewer that can be sent changes, with nothing unfinished; and a screen of its size
+-- Who gets a patch, and of what: a viewer that can take changes, with nothing unfinished; and a screen of its size
 -- whose cells are sound and have an encoding.
 pub record CanReadPatch (width_of : List ℕ → ℕ) (viewer : View) (screen : Screen) : Type 0 where
   pub narrow : width_of space ≡ 1

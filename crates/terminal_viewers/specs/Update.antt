@@ -1,4 +1,4 @@
--- What is sent to a viewer that has seen the changes before a number.
+-- The update for a viewer that has seen the changes before a number.
 use Rattle.std.specs.Prelude.{ℕ, ◌==◌, List, [], ◌∷◌, fold, replicate, Option, Some, None, if◌then◌else◌}
 use Rattle.std.specs.List.{flat_map}
 use Rattle.cell_base.specs.declared.attributes.LineAttribute.TheVariants.{SingleWidthLine}
@@ -60,6 +60,6 @@ abbrev pub bytes_of : Option (List StreamAction) → List ℕ
 bytes_of None = []
 bytes_of (Some actions) = stream_text actions
 
--- the update: the bytes of what is sent for these changes in turn
+-- the update: the bytes that encode these changes in turn
 abbrev pub update_of : Screen → Sized → ℕ → List ℕ
 update_of screen log number = bytes_of (all_rendered (update_changes screen log number) screen.width (height screen))

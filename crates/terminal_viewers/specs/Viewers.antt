@@ -69,7 +69,7 @@ ScreensShowThemselves =
 
 -- ---- updates that are read
 
--- What an update is sent to and of: a viewer that can be sent changes, with nothing unfinished, which shows at a number
+-- Who gets an update, and of what: a viewer that can take changes, with nothing unfinished, which shows at a number
 -- a screen whose cells are sound; and the cells, and the changes that its log keeps, have an encoding.
 pub record CanRead (width_of : List ℕ → ℕ) (viewer : View) (screen : Screen) (log : Sized) (number : ℕ) : Type 0 where
   pub narrow : width_of space ≡ 1

@@ -78,7 +78,7 @@ fn encode_visibility<W: Widths + Drop>(
     encoder.encode(bytes, &Change::CursorVisibility(visibility))
 }
 
-/// The bytes that are sent to a terminal which shows what another surface of the same size shows, so that it
+/// The bytes for a terminal which shows what another surface of the same size shows, so that it
 /// shows what the surface shows: the title, also an empty one; the cells that are not shown, each once, row by row;
 /// the cursor's position, where a wrap is pending by the last cell of its row, which is written once more; the pen; and
 /// whether the cursor is visible.

@@ -40,7 +40,7 @@ pub fn patches_have_encodings()
         → HaveEncodings new.width (height new) (patch_changes old new) }
 {}
 
-/// A viewer of a screen's size that can be sent changes and has nothing unfinished shows the screen once it is
+/// A viewer of a screen's size that can take changes and has nothing unfinished shows the screen once it is
 /// fed the patch from the screen that it shows: its saved cursor and its replies stay, and nothing is unfinished
 /// or held. The screen's cells are sound, and they have an encoding.
 pub fn viewers_read_patches()

@@ -289,7 +289,7 @@ impl ViewerEncoder {
     }
 }
 
-/// The bytes that are sent to a terminal of the surface's size which shows what the surface showed at a
+/// The bytes for a terminal of the surface's size which shows what the surface showed at a
 /// number of changes, so that it shows what the surface shows: those of the changes that are due from
 /// that number on; or, where none are, of those that paint the screen anew on any terminal of its size,
 /// from a clear on, with the title, also an empty one, and with a wrap that is pending, by the last cell

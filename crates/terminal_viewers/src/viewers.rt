@@ -31,7 +31,7 @@ pub fn viewers_go_on_showing()
     one_cut();
 }
 
-/// A viewer of a screen's size that shows the screen at a number, can be sent changes and has nothing
+/// A viewer of a screen's size that shows the screen at a number, can take changes and has nothing
 /// unfinished, shows the screen once it is fed the update for that number: its saved cursor and its
 /// replies stay, and nothing is unfinished or held. The screen's cells are sound, and they and the
 /// changes that its log keeps have an encoding.

@@ -13,7 +13,7 @@ fn text_of<R: Abort + AllocGlobal>(rt: &R, text: &str) -> String {
     String::from_str(rt.alloc(), text).expect(rt, "memory")
 }
 
-// Red and black that change places, with nearly all other looks.
+// Red and black swapped, with nearly all other renditions.
 fn loud() -> CellAttributes {
     let mut a = CellAttributes::blank();
     a.set_intensity(Intensity::Bold);

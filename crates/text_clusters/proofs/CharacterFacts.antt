@@ -1,4 +1,4 @@
--- What the tables say of single characters, as the cut of a text needs it.
+-- Facts about single characters from the tables, for cutting a text into clusters.
 use Rattle.std.proofs.Common.{◌≡◌, ℕ, ◌<◌, Bool, true, false, not, ◌||◌, ◌==◌, refl, eqb-true}
 use Rattle.ucd_table.proofs.Computing.{tables}
 use Rattle.ucd_table.proofs.Facts.{Stepped-below, Stepped-everywhere}
@@ -18,7 +18,7 @@ use Rattle.ucd_emoji.proofs.BinaryLemmas.{is_extended_pictographic_stepped}
 use Rattle.ucd_emoji.proofs.Computing.{ucd_emoji}
 use Rattle.text_clusters.specs.Plain.{is_printable}
 
--- a character that joins whatever stands before it, but for a control
+-- a character that joins the one before it, except after a control
 abbrev pub joins_left : GraphemeClusterBreak → Bool
 joins_left Extend = true
 joins_left Zwj = true

@@ -1,4 +1,4 @@
--- Facts on controls of C1: the steps of a walk that looks for one.
+-- Facts about C1 controls: the steps of a scan for one.
 use Rattle.std.proofs.Common.{◌≡◌, ℕ, suc, zero, ◌+◌, ◌-◌, ◌<◌, ◌≤◌, true, false, ◌||◌, List, [], ◌∷◌, length, get_or, drop, length-drop, refl, arith}
 use Rattle.text_clusters.specs.Controls.{is_c1, holds_c1}
 
@@ -11,14 +11,14 @@ holds_c1-drop (b ∷ []) i h = absurd (omega arith)
 holds_c1-drop (b ∷ c ∷ rest) zero h = refl
 holds_c1-drop (b ∷ c ∷ rest) (suc i) h = holds_c1-drop (c ∷ rest) i (omega arith)
 
--- one byte is too few
+-- a text of at most one byte holds no C1 control
 pub holds_c1-short : (text : List ℕ) → length text ≤ 1 → holds_c1 text ≡ false
 unfolding holds_c1
 holds_c1-short [] h = refl
 holds_c1-short (b ∷ []) h = refl
 holds_c1-short (b ∷ c ∷ rest) h = absurd (omega arith)
 
--- the steps of a walk over neighbouring bytes, of which the right one stands at i
+-- the steps of a scan over pairs of neighbouring bytes, where i is the index of the right one
 pub c1_next : (text : List ℕ) (i : ℕ) → 0 < i → i < length text → is_c1 (get_or text (i - 1) 0) (get_or text i 0) ≡ false
     → holds_c1 (drop (i + 1 - 1) text) ≡ holds_c1 (drop (i - 1) text)
 c1_next text zero above below other = absurd (omega arith)

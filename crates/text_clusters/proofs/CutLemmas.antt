@@ -1,4 +1,4 @@
--- The clusters of a text, cut one by one: where a boundary stands the rules see nothing of what is before it.
+-- The clusters of a text, cut one by one: after a boundary the rules don't depend on the text before it.
 use Rattle.std.proofs.Common.{◌≡◌, ℕ, Bool, true, false, not, ◌&&◌, ◌||◌, List, [], ◌∷◌, ◌++◌, map, unwrap_or, refl, sym, ap, ◌∙◌, append-nil}
 use Rattle.std.specs.Prelude.{if◌then◌else◌}
 use Rattle.std.proofs.lemmas.Bool.{false≢true, not-true, or_from}
@@ -23,9 +23,9 @@ breaks = is_grapheme_break true
 abbrev pub pieces : List ℕ → List ℕ → List (List ℕ)
 pieces before cs = cut breaks before cs []
 
--- ---- what the rules remember
+-- ---- the context that the rules use
 
--- whatever the rules look for before a position, they don't find it after this character
+-- after this character the rules' lookups give the same result with the characters before it as without them
 pub record Forgets (d : ℕ) (before : List ℕ) : Type 0 where
   pub linker : ends_in_linker (map indic_conjunct_break (d ∷ before)) ≡ ends_in_linker (map indic_conjunct_break (d ∷ []))
   pub pictograph : ends_in_pictograph (d ∷ before) ≡ ends_in_pictograph (d ∷ [])
@@ -83,7 +83,7 @@ module _ (d : ℕ) (before : List ℕ) (forgets : Forgets d before) where
   cut_kept x (c ∷ cs) = λ i.
       if break_kept (c ∷ x) (cs ++ []) i then (c ∷ []) ∷ cut_kept (c ∷ x) cs i else prepend (c ∷ []) (cut_kept (c ∷ x) cs i)
 
-  -- what begins after a boundary is cut as if nothing were before it
+  -- from d on the text is cut as if nothing were before it
   pub cut_after : (cs : List ℕ) → pieces before (d ∷ cs) ≡ pieces [] (d ∷ cs)
   unfolding cut
   cut_after cs = λ i.
@@ -91,7 +91,7 @@ module _ (d : ℕ) (before : List ℕ) (forgets : Forgets d before) where
 
 -- ---- a boundary
 
--- a character that joins what stands before it breaks only after a control
+-- a text is cut before a character that joins to its left only after a control
 after_extend : (g : GraphemeClusterBreak) (r : Bool) → unwrap_or (break_by_pair true g Extend) r ≡ true → is_control g ≡ true
 after_extend Control r e = refl
 after_extend Cr r e = refl
@@ -273,7 +273,7 @@ module _ (d b : ℕ) (bs cs : List ℕ) (boundary : breaks (b ∷ bs) (d ∷ cs)
 
 -- ---- one cluster
 
--- The first cluster of characters: it is cut off, by itself it is one, and the others are those of what is left.
+-- The first cluster of characters: it is cut off, it is a single cluster by itself, and the rest is cut into the remaining clusters.
 pub record First (before : List ℕ) (c : ℕ) (cs : List ℕ) : Type 0 where
   pub remaining : List ℕ
   pub rest : List ℕ

@@ -1,4 +1,4 @@
--- A character that is independent is a cluster by itself where another such one follows, or none.
+-- An independent character is a cluster by itself before another independent character and at the end of a text.
 use Rattle.std.proofs.Common.{◌≡◌, ℕ, zero, suc, ◌+◌, ◌-◌, ◌<◌, ◌≤◌, Bool, true, false, not, ◌&&◌, ◌||◌, List, [], ◌∷◌, ◌++◌, length, map, take, drop, get_or, unwrap_or, IsUtf8, IsCharBoundary, refl, sym, ap, ap₂, subst, ◌∙◌, append-nil, arith, inl, inr}
 use Rattle.std.specs.Prelude.{Some, nat_le, nat_lt, min, encode_utf8, encode_utf8_all, if◌then◌else◌}
 use Rattle.std.specs.Int.{is_in_range}
@@ -31,9 +31,9 @@ use Rattle.text_clusters.proofs.CharacterFacts.{is_conjunct_mark, implies_from}
 use Rattle.text_clusters.proofs.CutLemmas.{by_test, breaks, pieces, forgets, cut_after, cut_here, last_alone, pieces-nil}
 use Rattle.text_clusters.proofs.PlainLemmas.{chars-ascii, prefix_printable, prefix_len_more, prefix_taken, printable_below, printable_prefix}
 
--- ---- what the tables say
+-- ---- facts from the tables
 
--- no rule joins a character of such a value to another one of such a value
+-- values whose characters no rule joins to each other
 abbrev pub is_free : GraphemeClusterBreak → Bool
 is_free Lv = true
 is_free Lvt = true
@@ -125,7 +125,7 @@ independent_free c h =
     by_size (nat_lt c 0x800) (is_early c) (nat_lt c 0x2E00) (is_sign c) (nat_lt c 0xA670) (is_eastern c) (nat_lt c 0x10000) (is_later c) (is_late c) h
     (early_free c) (sign_free c) (eastern_free c) (later_free c) (late_free c)
 
--- no rule joins a character of such a value to one before it that is free
+-- values whose characters no rule joins to a free character before them
 abbrev is_open : GraphemeClusterBreak → Bool
 is_open Lv = true
 is_open Lvt = true

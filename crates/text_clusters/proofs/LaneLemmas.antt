@@ -101,7 +101,7 @@ prefix_taken p (suc n) (x ∷ xs) = by_test (p x) refl (prefix_taken p n xs)
     by_test true e h = let a = prefix_cons p x xs e in let b = prefix_cons p x (take n xs) e in omega arith
     by_test false e h = let b = prefix_stop p x (take n xs) e in omega arith
 
--- what passes one test, and after it what passes another that all of these pass
+-- the prefix that passes `q` is the prefix that passes `p`, and then the prefix of the rest that passes `q`, where `p` implies `q`
 pub passed : (p q : ℕ → Bool) → ((x : ℕ) → p x ≡ true → q x ≡ true) → (xs : List ℕ) → prefix_len q xs ≡ prefix_len p xs + prefix_len q (drop (prefix_len p xs) xs)
 passed p q h [] = refl
 passed p q h (x ∷ xs) = by_test (p x) refl (passed p q h xs)
@@ -118,7 +118,7 @@ passed p q h (x ∷ xs) = by_test (p x) refl (passed p q h xs)
         let c = ap (λ n. prefix_len q (drop n (x ∷ xs))) a in
         omega (arith, a, c)
 
--- what is known to pass may be left out
+-- where the first n items pass, only the rest need be tested
 pub prefix_passes : (p : ℕ → Bool) (n : ℕ) (xs : List ℕ) → n ≤ prefix_len p xs → prefix_len p xs ≡ n + prefix_len p (drop n xs)
 prefix_passes p zero xs h = omega arith
 prefix_passes p (suc n) [] h = absurd (omega arith)
@@ -131,7 +131,7 @@ prefix_passes p (suc n) (x ∷ xs) h = by_test (p x) refl h (λ k. prefix_passes
         omega (arith, a, b)
     by_test false e h k = let a = prefix_stop p x xs e in absurd (omega (arith, a, h))
 
--- the last bytes, so many, after others that pass
+-- where all bytes before the last n pass, only the last n need be tested
 pub last_block : (p : ℕ → Bool) (n last : ℕ) (xs block : List ℕ) → n ≤ length xs → last ≡ length xs - n → block ≡ drop last xs → last ≤ prefix_len p xs
     → prefix_len p xs ≡ last + prefix_len p (take n block)
 last_block p n last xs block h l b k =
@@ -155,7 +155,7 @@ all_by_len p (x ∷ xs) = by_test (p x) refl (all_by_len p xs)
     by_test true e k = rw e (equal_before (prefix_len p xs) (length xs) ∙ k)
     by_test false e k = rw e (ne_eqb _ _ (λ same. omega (arith, same)))
 
--- the first bytes, so many, and the last, which together are all
+-- all bytes pass exactly where the first n and the last n do, which together cover the whole list
 pub both_blocks : (p : ℕ → Bool) (n : ℕ) (xs block : List ℕ) → n ≤ length xs → length xs ≤ n + n → block ≡ drop (length xs - n) xs
     → (prefix_len p (take n xs) == n && prefix_len p (take n block) == n) ≡ list_all p xs
 both_blocks p n xs block h l b =

@@ -129,7 +129,7 @@ module _ (text : List ℕ) where
       let start : 0 ≡ here - 1 = omega arith in
       ap (λ n. each (take n text) ++ graphemes true (drop n text)) (start ∙ sym (plain_less e))))
 
-  -- ---- the start of at most so many bytes
+  -- ---- a prefix of at most `most` bytes
 
   module _ (most : ℕ) where
     abbrev prefix : ℕ
@@ -172,7 +172,7 @@ module _ (text : List ℕ) where
         let none : 0 ≡ prefix = omega arith in
         subst (IsCharBoundary text) none (IsCharBoundary-start text u)))
 
-    -- ---- how far the code looks
+    -- ---- the bytes that the code scans
 
     run_len : prefix_len is_printable (take most text) ≡ min most here
     run_len = prefix_taken most text

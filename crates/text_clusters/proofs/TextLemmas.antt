@@ -70,7 +70,7 @@ module _ {X : Type 0} (f g : List ℕ → X) (same : (p : List ℕ) → grapheme
       ∙ (λ i. same (first_cluster c cs s) (cluster_alone c cs s) i ∷ same_at_each n (chars_after c cs s) (after_scalars c cs s) (omega arith) i)
       ∙ sym (ap (map g) t)
 
-  -- what is the same at each text that is one cluster by itself is the same at each cluster of a text
+  -- functions that agree on each text that is a single cluster agree on each cluster of a text
   pub same_at_clusters : (text : List ℕ) → IsUtf8 text → map f (graphemes true text) ≡ map g (graphemes true text)
   same_at_clusters text u = subst (λ (t : List ℕ). map f (graphemes true t) ≡ map g (graphemes true t)) u.1.1 (same_at_each (length u.0) u.0 u.1.0 (omega arith))
 
@@ -100,7 +100,7 @@ cut_again (suc k) (suc n) (c ∷ cs) s h =
     ∙ cut_again k n (chars_after c cs s) (after_scalars c cs s) (omega arith)
     ∙ sym (ap (drop (suc k)) t)
 
--- after some of its clusters a text has the others
+-- the text after its first k clusters has the remaining clusters
 pub clusters_after : (k : ℕ) (text : List ℕ) → IsUtf8 text → graphemes true (concat (drop k (graphemes true text))) ≡ drop k (graphemes true text)
 clusters_after k text u = subst (λ (t : List ℕ). graphemes true (concat (drop k (graphemes true t))) ≡ drop k (graphemes true t)) u.1.1 (cut_again k (length u.0) u.0 u.1.0 (omega arith))
 

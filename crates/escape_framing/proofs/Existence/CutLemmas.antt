@@ -16,7 +16,7 @@ row_append [] ds t h k = k
 row_append (s ∷ ss) ds t h k =
     (subst (IsSegment s) (sym (ap (λ l. l ++ t) (flat_map-append bytes_of ss ds) ∙ append_assoc (flat_map bytes_of ss) (flat_map bytes_of ds) t)) h.0, row_append ss ds t h.1 k)
 
--- what a reading makes of bytes: they are joined, what is unfinished comes last, and the segments stand in a row
+-- the cut that a reading makes of bytes: joined it is the bytes, the tail is unfinished, and each segment may come before the rest
 pub record Cuts (bytes : List ℕ) (r : Reading) : Type 0 where
   pub joined : flat_map bytes_of r.segments ++ bytes_of_tail r.tail ≡ bytes
   pub unfinished : IsUnfinished r.tail

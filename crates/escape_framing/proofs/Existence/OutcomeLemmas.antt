@@ -16,7 +16,7 @@ pub data Outcome (t : List ℕ) (b : ℕ) : Type 0 where
   begun : IsBegun (t ++ b ∷ []) → is_utf8 (t ++ b ∷ []) ≡ false → is_none (utf8_error_len (t ++ b ∷ [])) ≡ true → Outcome t b
   broken : (BeginsCharacter (t ++ b ∷ []) → ⊥) → is_utf8 (t ++ b ∷ []) ≡ false → is_none (utf8_error_len (t ++ b ∷ [])) ≡ false → Outcome t b
 
--- some bytes stand for each character
+-- the encoding of a character is not empty
 pub some_bytes : (c : ℕ) (rest : List ℕ) → encode c ++ rest ≡ [] → ⊥
 some_bytes c rest e = let n = len_utf8_bounds c in omega (arith, ap length e, length-append (encode c) rest, length-encode c)
 

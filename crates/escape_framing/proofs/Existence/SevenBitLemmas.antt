@@ -1,4 +1,4 @@
--- No C1 control stands in a seven-bit form, and what one byte more makes of it.
+-- A seven-bit form has no C1 control; and how one more byte changes it.
 use Rattle.std.proofs.Common.{◌≡◌, ℕ, ◌-◌, Bool, true, false, List, [], ◌∷◌, ◌++◌, refl, ap, ⊎_elim}
 use Rattle.std.proofs.Common.{arith}
 use Rattle.std.proofs.lemmas.Bool.{and_parts, and_right, cond_both, cases_Bool}

@@ -1,4 +1,4 @@
--- What one byte adds after what is open.
+-- The segments and the tail that one more byte adds to an open tail.
 use Rattle.std.proofs.Common.{◌≡◌, ◌≢◌, ℕ, ◌/◌, ◌+◌, ◌<◌, ◌≤◌, inl, inr, ⊎_elim, true, false, List, [], ◌∷◌, ◌++◌, refl, sym, ap, subst, ◌∙◌, arith, append_assoc}
 use Rattle.std.specs.Prelude.{◌==◌, slice_index}
 use Rattle.std.specs.Char.{IsScalar, is_ascii_control}
@@ -15,7 +15,7 @@ use Rattle.escape_framing.proofs.Existence.OutcomeLemmas.{Outcome, whole, begun,
 use Rattle.escape_framing.proofs.Existence.SevenBitLemmas.{no_pair}
 use Rattle.std.proofs.lemmas.Bool.{cond_both, eqb-true}
 
--- What a reading adds after others: the bytes and no others, what is unfinished, and segments that may stand before it
+-- A reading of bytes: its segments and its tail are just these bytes, the tail is unfinished, and the segments may come before it,
 -- whatever follows.
 pub record Adds (bytes : List ℕ) (r : Reading) : Type 0 where
   pub joined : flat_map bytes_of r.segments ++ bytes_of_tail r.tail ≡ bytes

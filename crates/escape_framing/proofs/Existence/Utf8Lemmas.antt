@@ -131,7 +131,7 @@ chosen false n rest h = cc
 bounds : (lo hi x : ℕ) → is_in_range lo hi x ≡ true → (lo ≤ x) × (x ≤ hi)
 bounds lo hi x h = (grind (arith, nat_tests), grind (arith, nat_tests))
 
--- what the table says of a second byte
+-- the bounds of a second byte in the table
 second_bounds : (x y : ℕ) → is_in_range (second_byte_min x) (second_byte_max x) y ≡ true
     → (x ≡ 0xE0 → 0xA0 ≤ y) × (x ≡ 0xED → y ≤ 0x9F) × (x ≡ 0xF0 → 0x90 ≤ y) × (x ≡ 0xF4 → y ≤ 0x8F) × (0x80 ≤ y) × (y ≤ 0xBF)
 second_bounds x y h = (λ e. grind (arith, nat_tests), λ e. grind (arith, nat_tests), λ e. grind (arith, nat_tests), λ e. grind (arith, nat_tests), grind (arith, nat_tests), grind (arith, nat_tests))
@@ -227,7 +227,7 @@ no_fifth x y z w e =
 
 -- ---- lists
 
--- what the prefix is followed by decides where a last byte falls
+-- the last byte of two joined lists is in the second one, or this one is empty
 pub last_falls : (e r t : List ℕ) (b : ℕ) → e ++ r ≡ t ++ b ∷ [] → ((r ≡ []) × (e ≡ t ++ b ∷ [])) ⊎ ((rest : List ℕ) × (t ≡ e ++ rest))
 last_falls [] r t b h = inr (t, refl)
 last_falls (x ∷ e) r [] b h = last e r (let k : e ++ r ≡ [] = cc in k) (let k : x ≡ b = cc in k)

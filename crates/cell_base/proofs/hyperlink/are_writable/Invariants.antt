@@ -4,6 +4,6 @@ use Rattle.cell_base.specs.Link.{texts_of}
 use Rattle.cell_base.specs.LinkText.{is_writable}
 use Rattle.cell_base.proofs.hyperlink.are_writable.Given as goal
 
--- what is left answers as the whole
+-- the remaining parameters are writable exactly where all of them are
 abbrev pub invariant-loop-key : goal.invariant-loop-key
 invariant-loop-key l = list_all is_writable (texts_of l.key-iterator) ≡ list_all is_writable (texts_of l.params.entries)

@@ -4,7 +4,7 @@ use Rattle.cell_edits.specs.CellList.{ends_split}
 use Rattle.cell_edits.specs.ShownCells.{lent_cells}
 use Rattle.cell_edits.proofs.row.settle.Given as goal
 
--- the cells so far, and what those that are left are shown as, are the whole
+-- the cells so far, followed by the lent cells of the remaining ones, are the lent cells of the whole row
 abbrev pub invariant-loop-at : goal.invariant-loop-at
 invariant-loop-at l = record {
   whole : ends_split (take l.at l.cells.items) ≡ false;

@@ -5,7 +5,7 @@ use Rattle.cell_base.specs.CellContent.{row_of_cells}
 use Rattle.cell_edits.specs.TextRuns.{Leads}
 use Rattle.cell_edits.proofs.runs.set_text.Given as goal
 
--- what is set so far leads to the whole
+-- setting the rest of the text from the current column on gives the row with the whole text set
 abbrev pub invariant-loop-at : goal.invariant-loop-at
 invariant-loop-at g l = record {
   len : vec_len l.cells ≡ vec_len l.initial.cells;

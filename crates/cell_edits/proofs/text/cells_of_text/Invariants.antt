@@ -6,7 +6,7 @@ use Rattle.cell_base.specs.CellContent.{cell_of, row_of_cells}
 use Rattle.cell_edits.specs.CellList.{ends_split, cell_columns, text_row}
 use Rattle.cell_edits.proofs.text.cells_of_text.Given as goal
 
--- the columns so far, and then those of what is left, are the whole
+-- the columns so far, followed by those of the remaining clusters, are those of the whole text
 abbrev pub invariant-loop-cluster : goal.invariant-loop-cluster
 invariant-loop-cluster g l = record {
   whole : ends_split l.cells.items ≡ false;

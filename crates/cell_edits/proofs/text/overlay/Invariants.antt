@@ -6,7 +6,7 @@ use Rattle.cell_edits.specs.CellList.{text_cells}
 use Rattle.cell_edits.specs.RowEdits.{overlaid}
 use Rattle.cell_edits.proofs.text.overlay.Given as goal
 
--- what is set so far, and then what is left, is the whole
+-- setting the remaining clusters from the current column on gives the row with the whole text set
 abbrev pub invariant-loop-cluster : goal.invariant-loop-cluster
 invariant-loop-cluster g l =
     overlaid (row_of_cells l.cells.items) l.at (map (λ cluster. cell_of cluster (g.W.Widths.width_of l.w cluster) l.attrs) (graphemes_left l.cluster-iterator))

@@ -7,6 +7,6 @@ use Rattle.cell_edits.specs.VisibleCells.{visible_cells}
 use Rattle.cell_views.specs.StoredCells.{stored_row}
 use Rattle.cell_line.proofs.changes.last_non_blank.Given as goal
 
--- the answer so far, and then what is left, are the whole
+-- the answer so far, updated by the remaining cells, is the answer for all cells
 abbrev pub invariant-loop-cell : goal.invariant-loop-cell
 invariant-loop-cell l = fold (λ last v. if is_blank_of l.color v.cell then last else Some v.column) l.last (cells_left l.cell-iterator) ≡ last_non_blank l.color (visible_cells (stored_row l.cells))

@@ -7,6 +7,6 @@ use Rattle.cell_edits.specs.VisibleCells.{visible_cells, contents}
 use Rattle.cell_views.specs.StoredCells.{stored_row}
 use Rattle.cell_line.proofs.changes.write_cells.Given as goal
 
--- what is written, and then what is left, are the whole
+-- writing the remaining cells gives the writer with all cells written
 abbrev pub invariant-loop-cell : goal.invariant-loop-cell
 invariant-loop-cell l = with_cells l.writer (contents (filter (λ v. is_kept_by l.last v.column) (cells_left l.cell-iterator))) ≡ with_cells l.initial.writer (contents (filter (λ v. is_kept_by l.last v.column) (visible_cells (stored_row l.cells))))

@@ -10,7 +10,7 @@ use Rattle.cell_line.specs.OpenRows.{rows_from}
 use Rattle.cell_views.specs.OpenZones.{is_kept_by}
 use Rattle.cell_line.proofs.wrap.fill_rows.Given as goal
 
--- the lines so far, and then those of the open row and what is left, are the whole
+-- the lines so far, followed by those of the open row and the remaining cells, are the lines of all cells
 abbrev pub invariant-loop-column : goal.invariant-loop-column
 invariant-loop-column l = record {
   whole : ends_split l.open.items ≡ false;

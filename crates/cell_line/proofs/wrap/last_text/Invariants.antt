@@ -6,6 +6,6 @@ use Rattle.cell_edits.specs.VisibleCells.{visible_cells, is_space}
 use Rattle.cell_line.specs.OpenRows.{last_text}
 use Rattle.cell_line.proofs.wrap.last_text.Given as goal
 
--- the answer so far, and then what is left, are the whole
+-- the answer so far, updated by the remaining cells, is the answer for all cells
 abbrev pub invariant-loop-cell : goal.invariant-loop-cell
 invariant-loop-cell l = fold (λ last v. if is_space v then last else Some v.column) l.last (cells_left l.cell-iterator) ≡ last_text (visible_cells (row_of_cells l.cells))

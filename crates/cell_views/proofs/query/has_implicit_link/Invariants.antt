@@ -5,6 +5,6 @@ use Rattle.cell_views.specs.CellRefView.{cells_left}
 use Rattle.cell_edits.specs.Links.{is_implicit, has_implicit_link}
 use Rattle.cell_views.proofs.query.has_implicit_link.Given as goal
 
--- what is left answers as the whole
+-- the remaining cells hold an implicit link exactly where the row does
 abbrev pub invariant-loop-cell : goal.invariant-loop-cell
 invariant-loop-cell l = list_any (λ v. is_implicit v.cell.attributes.hyperlink) (cells_left l.cell-iterator) ≡ has_implicit_link (stored_row l.cells)

@@ -6,7 +6,7 @@ use Rattle.cell_edits.specs.VisibleCells.{visible_cells}
 use Rattle.cell_views.specs.Words.{Answers, prefix_words, word_end}
 use Rattle.cell_views.proofs.words.word_end.Given as goal
 
--- the end so far, and then what is left, give the whole
+-- the end so far, moved on over the remaining cells, is the end of the words
 abbrev pub invariant-loop-cell : goal.invariant-loop-cell
 invariant-loop-cell g l =
     (test : List ℕ → Bool) → Answers g.F.Fn l.is_word test

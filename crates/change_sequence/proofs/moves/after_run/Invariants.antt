@@ -7,7 +7,7 @@ use Rattle.change_sequence.specs.Positions.{position_of}
 use Rattle.change_sequence.specs.Sequence.{stroke_moved}
 use Rattle.change_sequence.proofs.moves.after_run.Given as goal
 
--- what is left leads to where the whole leads
+-- the remaining clusters lead from here to the position that the whole text leads to
 abbrev pub invariant-loop-cluster : goal.invariant-loop-cluster
 invariant-loop-cluster g l =
     (fold (stroke_moved (g.W.Widths.width_of l.widths) l.columns) (position_of l.position) (map Cluster (graphemes_left l.cluster-iterator))

@@ -7,7 +7,7 @@ use Rattle.change_sequence.specs.Positions.{position_of}
 use Rattle.change_sequence.specs.Sequence.{parts_moved}
 use Rattle.change_sequence.proofs.moves.after_text.Given as goal
 
--- what is left leads to where the whole leads
+-- the rest of the text leads from here to the position that the whole text leads to
 abbrev pub invariant-loop-control : goal.invariant-loop-control
 invariant-loop-control g l = record {
   leads : parts_moved (g.W.Widths.width_of l.widths) l.columns (position_of l.position) (text_parts l.rest) ≡ parts_moved (g.W.Widths.width_of l.widths) l.columns (position_of l.fn.position) (text_parts l.text);

@@ -4,7 +4,7 @@ use Rattle.clustered_row.specs.Position.{IsPosition}
 use Rattle.clustered_row.specs.Sizes.{width_of}
 use Rattle.clustered_row.proofs.position.find_back.Given as goal
 
--- a position after the other one, and the column is not after the cell that stands there
+-- the position is not before `from`, and the column is before the end of the cell at the position
 abbrev pub invariant-loop-position : goal.invariant-loop-position
 invariant-loop-position l = record {
   position : IsPosition l.sizes l.position;

@@ -16,8 +16,8 @@ returns-then-count-room-clause-done c =
     let same : slice ≡ runs = c.deref.ensures.value in
     let some = below 0 (length slice) (λ none. let e : length slice ≡ 0 = omega arith in let never = c.room_after-room.ensures.none e in omega arith) in
     let long : length slice ≡ length runs = ap length same in
-    let few : 0 < length runs = omega arith in
+    let nonempty : 0 < length runs = omega arith in
     let last : Run = slice_index_or runs (length runs - 1) no_run in
     let is : last ≡ slice_index_or runs (length runs - 1) last = get_or_default runs (length runs - 1) no_run last (omega arith) in
     let at : last ≡ slice_index_or slice (length slice - 1) last = is ∙ ap (λ ys. slice_index_or ys (length ys - 1) last) (sym same) in
-    c.grow_last.ensures.columns last (few, is) ∙ ap (λ a. spread runs ++ replicate c.args.count a) (c.room_after-room.ensures.joins last (some, at) (omega arith))
+    c.grow_last.ensures.columns last (nonempty, is) ∙ ap (λ a. spread runs ++ replicate c.args.count a) (c.room_after-room.ensures.joins last (some, at) (omega arith))

@@ -1,4 +1,4 @@
--- What is still to come decides for the whole.
+-- the remaining tokens are all SGR's exactly where all tokens are
 use Rattle.std.proofs.Common.{◌≡◌, drop}
 use Rattle.csi_codec.specs.Actions.{all_sgr_tokens}
 use Rattle.csi_codec.proofs.groups.all_sgr_tokens.Given as goal

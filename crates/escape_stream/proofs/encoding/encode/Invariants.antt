@@ -1,4 +1,4 @@
--- The bytes so far, and the texts of what is left, are the whole.
+-- The bytes so far, and the texts of the remaining actions, are the bytes of the whole list.
 use Rattle.std.proofs.Common.{◌≡◌, ◌++◌, drop, map}
 use Rattle.escape_stream.specs.StreamActionView.{value_of}
 use Rattle.escape_stream.specs.StreamText.{texts_after, stream_text}

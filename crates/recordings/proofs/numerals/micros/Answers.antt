@@ -3,7 +3,7 @@ use Rattle.recordings.specs.Numerals.{greatest, micros, number_after, zeros}
 use Rattle.recordings.proofs.NumeralLemmas.{joined_stopped}
 use Rattle.recordings.proofs.numerals.micros.Goals as goal
 
--- a step, with what it was given put in
+-- the result of a step, where its digits are the first `wanted` ones of those given
 step : (value : ℕ) (digits given : List ℕ) (count wanted result : ℕ) → digits ≡ take count given → count ≡ wanted
     → result ≡ min (number_after value digits) greatest → result ≡ min (number_after value (take wanted given)) greatest
 step value digits given count wanted result cut same is =

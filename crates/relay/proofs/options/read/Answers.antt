@@ -16,7 +16,7 @@ simple : is_simple command_line ≡ true
 unfolding command_line
 simple = refl
 
--- what is read of an option is what the words give it
+-- the number that is read of an option is the one that the words give
 read_is : (name : Text) (default most : ℕ) (app : App) (words : List Text) (m : ArgMatches) → app ≡ command_line → HasMatchesOf app words m
     → number_or default most (one_text (found_of m) name) ≡ number_or default most (text_in words name)
 unfolding text_in
@@ -24,7 +24,7 @@ read_is name default most app words m is matches =
     ap (number_or default most) (one_text-rows (found_of m) name
     ∙ ap (one_of name) ((matches (ap is_simple is ∙ simple)).0 ∙ ap (λ a. matches_of a words) is))
 
--- how the parse fails is how the words do
+-- a parse fails with one of the faults that the words have
 err_faults : (app : App) (words : List Text) (e : Error) → app ≡ command_line
     → (is_simple_and_free app ≡ true → HasKind (fault_of app words) e) → HasKind (faults_in words) e
 unfolding faults_in

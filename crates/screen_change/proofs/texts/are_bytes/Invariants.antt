@@ -6,7 +6,7 @@ use Rattle.text_clusters.specs.Plain.{each}
 use Rattle.screen_change.specs.Texts.{same_texts}
 use Rattle.screen_change.proofs.texts.are_bytes.Given as goal
 
--- what is left is clusters where the whole is
+-- the clusters of the rest are its bytes exactly where those of the whole text are
 abbrev pub invariant-loop-rest : goal.invariant-loop-rest
 invariant-loop-rest l = shadow (Utf8 l.rest) × (same_texts (graphemes true l.rest) (each l.rest) ≡ same_texts (graphemes true l.fn.text) (each l.fn.text))
 

@@ -6,7 +6,7 @@ use Rattle.screen_change.specs.Cuts.{cut_at, bytes_of}
 use Rattle.screen_change.specs.Texts.{same_texts}
 use Rattle.screen_change.proofs.texts.has_clusters.Given as goal
 
--- what is left is its cells where the whole is
+-- the remaining lengths cut the rest into its clusters exactly where all lengths do so for the whole text
 abbrev pub invariant-loop-len : goal.invariant-loop-len
 invariant-loop-len l = record {
   text : shadow (Utf8 l.rest);

@@ -5,7 +5,7 @@ use Rattle.screen_difference.specs.FreshCells.{placed}
 use Rattle.screen_difference.specs.ShownCells.{passed_fresh, shown_left, side_by_side, Fits, HaveRoom}
 use Rattle.screen_difference.proofs.fresh_cells.write_cells.Given as goal
 
--- what is written, and then what is left, are the whole; and what is left has its places
+-- the cells written so far and the fresh ones of the remaining cells are all fresh cells; and the remaining cells have room
 abbrev pub invariant-loop-count : goal.invariant-loop-count
 invariant-loop-count l = record {
   room : HaveRoom l.column (region_left l.news);

@@ -3,7 +3,7 @@ use Rattle.screen_difference.specs.Drawing.{with_all}
 use Rattle.screen_difference.specs.FreshCells.{row_fresh, rows_fresh, rows_of}
 use Rattle.screen_difference.proofs.regions.write_region.Given as goal
 
--- what is written, and then the lines that are left, are the whole
+-- the cells written so far, and then the fresh cells of the remaining lines, are all fresh cells
 abbrev pub invariant-loop-at : goal.invariant-loop-at
 invariant-loop-at l =
     with_all l.writer (rows_fresh (row_fresh l.x l.other_x l.width) (l.number + l.at) (rows_of (drop l.at l.olds)) (rows_of (drop l.at l.news)))

@@ -6,6 +6,6 @@ use Rattle.screen_formats.specs.Runs.{runs_of}
 use Rattle.screen_formats.specs.RunSteps.{with_cell}
 use Rattle.screen_formats.proofs.runs.line_runs.Given as goal
 
--- the runs so far, with what is left, become those of the whole
+-- the runs so far, grown by the cells that are left, are the runs of the line
 abbrev pub invariant-loop-cell : goal.invariant-loop-cell
 invariant-loop-cell l = fold with_cell l.runs.items (cells_left l.cell-iterator) ≡ runs_of (visible_cells l.line.columns)

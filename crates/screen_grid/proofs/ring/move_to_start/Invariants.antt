@@ -1,7 +1,7 @@
 use Rattle.std.proofs.Common.{◌≡◌, ◌+◌, length, take, drop}
 use Rattle.screen_grid.proofs.ring.move_to_start.Given as goal
 
--- those so far stand at the start, and the others where they stood
+-- the first `at` items are at the start, and the remaining ones keep their positions
 abbrev pub invariant-loop-at : goal.invariant-loop-at
 invariant-loop-at g l = record {
   len : length l.items ≡ length l.initial.items;

@@ -3,7 +3,7 @@ use Rattle.std.specs.Prelude.{replicate}
 use Rattle.screen_log.specs.LogView.{nothing}
 use Rattle.screen_log.proofs.change_log.drop_in_place.Given as goal
 
--- those that were passed hold nothing, and the others are as they were
+-- the changes that were passed hold nothing, and the rest are unchanged
 abbrev pub invariant-loop-at : goal.invariant-loop-at
 invariant-loop-at l = record {
   dropped : take l.at l.changes ≡ replicate l.at nothing;

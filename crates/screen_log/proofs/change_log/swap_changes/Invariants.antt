@@ -1,7 +1,7 @@
 use Rattle.std.proofs.Common.{◌≡◌, ◌≤◌, ◌-◌, ◌++◌, length, take, drop}
 use Rattle.screen_log.proofs.change_log.swap_changes.Given as goal
 
--- what is done before, and then what is left after, are the whole
+-- the first `at` changes of `prefix`, followed by the rest of `after`, are the original `after`
 abbrev pub invariant-loop-prefix : goal.invariant-loop-prefix
 invariant-loop-prefix l = record {
   within : l.at ≤ length l.prefix;

@@ -3,7 +3,7 @@ use Rattle.screen_repaint.specs.Ends.{are_blanks_with, passing_at_end}
 use Rattle.screen_repaint.specs.Repaint.{row_cells}
 use Rattle.screen_repaint.proofs.ends.blank_lines_at_end.Given as goal
 
--- with what is left the count becomes that of the whole
+-- going on with the remaining lines gives the count for all lines
 abbrev pub invariant-loop-line : goal.invariant-loop-line
 invariant-loop-line l = passing_at_end (λ x. are_blanks_with l.attrs (row_cells x.columns)) l.count l.left ≡ passing_at_end (λ x. are_blanks_with l.attrs (row_cells x.columns)) (length l.lines) l.lines
 

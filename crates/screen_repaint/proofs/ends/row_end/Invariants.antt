@@ -5,7 +5,7 @@ use Rattle.screen_repaint.specs.Ends.{end_of, with_cell}
 use Rattle.screen_repaint.specs.Repaint.{row_cells}
 use Rattle.screen_repaint.proofs.ends.row_end.Given as goal
 
--- the end so far, and then what is left, are the whole; and there are no more cells than columns
+-- the end so far, with the remaining cells, is the end of the row; and there are no more cells than columns
 abbrev pub invariant-loop-cells : goal.invariant-loop-cells
 invariant-loop-cells l =
     (fold with_cell l.end (contents (cells_left l.cells)) ≡ end_of (row_cells l.line.columns)) ×

@@ -4,7 +4,7 @@ use Rattle.screen_repaint.specs.PaintedRows.{IsTail, LeadsOn, rows_of, with_chan
 use Rattle.screen_repaint.specs.Repaint.{are_some, rows_painted}
 use Rattle.screen_repaint.proofs.rows.paint_rows.Given as goal
 
--- what is left to be painted makes the whole of what was painted
+-- painting the remaining lines after what was written is painting all of the lines
 abbrev pub invariant-loop-line : goal.invariant-loop-line
 invariant-loop-line l =
     LeadsOn (with_changes (rows_painted l.initial.writer.pen (rows_of l.lines)) l.initial.writer) (are_some (rows_painted l.initial.writer.pen (rows_of l.lines))) l.writer l.painted (l.at - length l.left) (rows_of l.left)

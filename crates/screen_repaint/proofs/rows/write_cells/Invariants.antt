@@ -5,7 +5,7 @@ use Rattle.cell_edits.specs.VisibleCells.{contents}
 use Rattle.screen_repaint.specs.Repaint.{row_cells}
 use Rattle.screen_repaint.proofs.rows.write_cells.Given as goal
 
--- what is written, and then what is left of the first cells, are all of these
+-- the cells written so far, and then the first `left` of the remaining cells, are the first `count` cells of the row
 abbrev pub invariant-loop-written : goal.invariant-loop-written
 invariant-loop-written l = with_cells l.writer (take l.left (contents (cells_left l.cells))) ≡ with_cells l.initial.writer (take l.count (row_cells l.line.columns))
 

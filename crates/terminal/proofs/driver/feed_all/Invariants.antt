@@ -2,7 +2,7 @@ use Rattle.std.proofs.Common.{◌≡◌, false, length}
 use Rattle.terminal.specs.Fed.{FeedsOn}
 use Rattle.terminal.proofs.driver.feed_all.Given as goal
 
--- what was read was fed
+-- the bytes read so far were fed, and neither the reader nor the terminal has failed
 abbrev pub invariant-loop : goal.invariant-loop
 invariant-loop g l = record {
   not_failed : l.reader.has_failed ≡ false;

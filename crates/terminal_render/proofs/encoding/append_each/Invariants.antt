@@ -1,4 +1,4 @@
--- the bytes so far are of what is sent for the changes so far, and none are waiting; what was there stands before them
+-- the bytes so far are the initial ones and the encoding of the changes so far, and begin with the initial ones; `actions` is empty
 use Rattle.std.proofs.Common.{◌≡◌, [], length, map, take}
 use Rattle.std.specs.Prelude.{Some}
 use Rattle.screen_change.specs.ValueOf.{value_of}

@@ -1,4 +1,4 @@
--- what is left answers as the whole
+-- the test of the texts that are left has the result of the test of all texts
 use Rattle.std.proofs.Common.{◌≡◌}
 use Rattle.std.specs.List.{list_all}
 use Rattle.cell_base.specs.Link.{texts_of}

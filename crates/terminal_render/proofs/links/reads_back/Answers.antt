@@ -1,5 +1,5 @@
-use Rattle.terminal_render.proofs.LinkLemmas.{told}
+use Rattle.terminal_render.proofs.LinkLemmas.{answers_read_back}
 use Rattle.terminal_render.proofs.links.reads_back.Goals as goal
 
 pub returns : goal.returns
-returns c = told c.reads_back.result c.args.link.now c.reads_back.ensures
+returns c = answers_read_back c.reads_back.result c.args.link.now c.reads_back.ensures

@@ -1,4 +1,4 @@
--- the actions so far, and those of what is left, are those of the whole
+-- the actions so far, then those of the rest of the text, are the initial ones, then those of the whole text; the rest is UTF-8, at a control
 use denote.Shadow.{shadow}
 use denote.Text.{Utf8}
 use Rattle.std.proofs.Common.{◌≡◌, ◌++◌, length}

@@ -1,4 +1,4 @@
--- what is left holds one where the whole does
+-- the remaining bytes hold a C1 control exactly where the whole text does
 use Rattle.std.proofs.Common.{◌≡◌, ◌-◌, drop}
 use Rattle.text_clusters.specs.Controls.{holds_c1}
 use Rattle.text_clusters.proofs.controls.holds_c1.Given as goal

@@ -71,7 +71,7 @@ module _ {M : Type 1} {𝓤 : Ura M} (𝓛 : Logic 𝓤) (at_mem : Memory → SP
         split ! $ split ! $ move ! (2 ∷ []) $ use1 𝓛 (given (Same 𝓛 at_mem run κ q b o γ content a) (‵ (LendsStored self a))) (ensured 𝓛 at_mem run κ q b o γ content a) $ learn ! (λ same.
         move ! (2 ∷ []) $ cases 𝓛 at_mem run κ q b o γ content ! a v same
         (λ x shown e. let y = at_slice 𝓛 at_mem run κ q b o γ content x in
-        -- [the vector's reference; what follows it; the tokens]
+        -- [the vector's reference; `Follows`; the tokens]
         lands_as ! e refl (tt, (record { fits = lit< tt }, (tt, tt))) $ first ! $ switches_on ! (get_tag ! (vrt ! refl (fld ! refl (stop !))) (whole !)) $ exec ! C Λ En (arm_body 0 code.Mir.s-3) Then $
         sets ! (of_opd ! (get_in ! (vrt ! refl (fld ! refl (stop !))) (in_variant ! 0 0 refl refl (whole !)))) refl (tt, tt) $
         sets ! (addr ! (through ! refl (stop !))) refl (tt, tt) $
@@ -86,7 +86,7 @@ module _ {M : Type 1} {𝓤 : Ura M} (𝓛 : Logic 𝓤) (at_mem : Memory → SP
         lands_as ! (ap only e') refl (tt, (tt, (record { fits = fits }, tt))) $
         sets_last ! (agg ! (and_then ! (lit ! tt) (and_then ! (get ! refl) (no_more !)))) refl (tt, (record { fits = lit< tt }, ((tt, (record { fits = fits }, tt)), tt))) $
         exec ! C Λ En rest (at_ret En End) $ sets ! (of_opd ! (get ! refl)) refl (tt, (record { fits = lit< tt }, ((tt, (record { fits = fits }, tt)), tt))) $
-        -- [the slice reference; what follows it; the token; nothing; what follows the vector]
+        -- [the slice reference; `Goes`; the token; nothing; `Follows`]
         returns ! (look_at ! 0 refl) $ free_all ! refl $ keep ! (0 ∷ 2 ∷ 4 ∷ 1 ∷ []) $ by ! (leaves 𝓛 at_mem run κ q b o γ content x r w shown is))))))))
         (λ e.  -- [what the line is; the tokens]
         lands_as ! e refl (tt, (record { fits = lit< tt }, (tt, tt))) $ first ! $ switches_on ! (get_tag ! (vrt ! refl (fld ! refl (stop !))) (whole !)) $ exec ! C Λ En (arm_body 1 code.Mir.s-3) Then $

@@ -1,13 +1,13 @@
 use Rattle.std.proofs.Common.{◌≡◌, ◌+◌, true, arith, rules, refl, is_ok}
-use Rattle.clustered_row.proofs.SizeLemmas.{columns_few}
+use Rattle.clustered_row.proofs.SizeLemmas.{columns_bound}
 use Rattle.clustered_row.proofs.StepLemmas.{sized_of, covered_sized, covered_shown, grown}
 use Rattle.clustered_row.proofs.cut_text.CutText.cover_more.Goals as goal
 
 pub overflow_add-self-2 : goal.overflow_add-self-2
 overflow_add-self-2 c =
     let t = c.args.self.now in
-    let few = columns_few t.sizes.items in
-    omega (arith, few, t.bytes, t.columns, t.text.ok.0, t.text.ok.1, t.text.small)
+    let bound = columns_bound t.sizes.items in
+    omega (arith, bound, t.bytes, t.columns, t.text.ok.0, t.text.ok.1, t.text.small)
 
 pub invariant_of-self-2 : goal.invariant_of-self-2
 invariant_of-self-2 c =

@@ -1,7 +1,7 @@
 use Rattle.std.proofs.Common.{◌++◌, ℕ, List, length, arith, ap, ◌∙◌}
 use Rattle.clustered_row.specs.Faces.{Face}
 use Rattle.clustered_row.specs.Sizes.{faces_of}
-use Rattle.clustered_row.proofs.SizeLemmas.{columns_few}
+use Rattle.clustered_row.proofs.SizeLemmas.{columns_bound}
 use Rattle.clustered_row.proofs.StepLemmas.{sized_of, sized_columns_within, all_sized, appended_sized, appended_shown}
 use Rattle.clustered_row.proofs.cut_text.CutText.push_cells.Goals as goal
 
@@ -14,9 +14,9 @@ push_all-requires-2 c =
 pub overflow_add-self-2 : goal.overflow_add-self-2
 overflow_add-self-2 c =
     let t = c.cover.new.self in
-    let few = columns_few t.sizes.items in
-    let more = columns_few c.args.sizes.now in
-    omega (arith, few, more, c.requires.sizes.bytes, c.requires.columns, c.requires.room, c.cover.ensures.bytes_left, t.bytes, t.columns, t.within, t.text.ok.0, t.text.ok.1, t.text.small)
+    let bound = columns_bound t.sizes.items in
+    let more = columns_bound c.args.sizes.now in
+    omega (arith, bound, more, c.requires.sizes.bytes, c.requires.columns, c.requires.room, c.cover.ensures.bytes_left, t.bytes, t.columns, t.within, t.text.ok.0, t.text.ok.1, t.text.small)
 
 pub invariant_of-self : goal.invariant_of-self
 invariant_of-self c =

@@ -5,7 +5,7 @@ use Rattle.clustered_row.specs.declared.cell_size.CellSize.{CellSize}
 use Rattle.clustered_row.specs.CutTexts.{shown}
 use Rattle.clustered_row.specs.Faces.{Own}
 use Rattle.clustered_row.specs.Sizes.{width_of}
-use Rattle.clustered_row.proofs.SizeLemmas.{columns_few}
+use Rattle.clustered_row.proofs.SizeLemmas.{columns_bound}
 use Rattle.clustered_row.proofs.StepLemmas.{sized_of, a_size, next_read, next_position_read, split_shown, split_position, take_first}
 use Rattle.clustered_row.proofs.cut_text.CutText.split_wide_cell.Goals as goal
 
@@ -27,8 +27,8 @@ after-next-requires-clause-columns c =
     let t = c.args.self.now in
     let wide = c.requires.wide a_size in
     let k = (next_read t.sizes.items c.args.position c.index.result.now c.requires.position wide.within c.index.ensures).1 in
-    let few = columns_few t.sizes.items in
-    omega (arith, k, few, t.bytes, t.within, t.text.ok.0, t.text.ok.1, t.text.small)
+    let bound = columns_bound t.sizes.items in
+    omega (arith, k, bound, t.bytes, t.within, t.text.ok.0, t.text.ok.1, t.text.small)
 
 pub replace-requires-clause-to : goal.replace-requires-clause-to
 replace-requires-clause-to c =

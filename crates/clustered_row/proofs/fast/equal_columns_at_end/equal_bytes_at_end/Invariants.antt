@@ -1,6 +1,6 @@
 use Rattle.std.proofs.Common.{◌≡◌, ◌-◌, length, drop}
 use Rattle.clustered_row.proofs.fast.equal_columns_at_end.equal_bytes_at_end.Given as goal
 
--- the last so many are the same
+-- the last `count` bytes are equal
 abbrev pub invariant-loop-count : goal.invariant-loop-count
 invariant-loop-count l = drop (length l.bytes - l.count) l.bytes ≡ drop (length l.remaining - l.count) l.remaining

@@ -2,7 +2,7 @@ use Rattle.std.proofs.Common.{◌≡◌, ◌-◌, length, drop}
 use Rattle.clustered_row.specs.Runs.{spread}
 use Rattle.clustered_row.proofs.fast.equal_columns_at_end.equal_runs_at_end.Given as goal
 
--- the last runs so far are the same, and their columns are counted
+-- the last `count` runs are equal, and `columns` counts their columns
 abbrev pub invariant-loop-count : goal.invariant-loop-count
 invariant-loop-count l = record {
   same : drop (length l.runs - l.count) l.runs ≡ drop (length l.remaining - l.count) l.remaining;

@@ -2,7 +2,7 @@ use Rattle.std.proofs.Common.{◌≡◌, ◌-◌, ◌≤◌, length, replicate}
 use Rattle.cell_base.specs.Row.{blank, set_columns}
 use Rattle.clustered_row.proofs.row.ClusteredRow.set_spaces.Given as goal
 
--- with the blanks that are left the row becomes what it is to be
+-- setting the remaining blanks gives the row with all blanks set
 abbrev pub invariant-loop-at : goal.invariant-loop-at
 invariant-loop-at l = record {
   len : length l.self ≡ length l.initial.self;

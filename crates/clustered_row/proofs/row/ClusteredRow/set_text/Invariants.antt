@@ -4,7 +4,7 @@ use Rattle.std.proofs.Common.{◌≡◌, ◌-◌, length}
 use Rattle.cell_edits.specs.TextRuns.{Leads}
 use Rattle.clustered_row.proofs.row.ClusteredRow.set_text.Given as goal
 
--- what is set so far leads to the whole
+-- setting the rest of the text from the current column on gives the row with the whole text set
 abbrev pub invariant-loop-at : goal.invariant-loop-at
 invariant-loop-at g l = record {
   len : length l.self ≡ length l.initial.self;

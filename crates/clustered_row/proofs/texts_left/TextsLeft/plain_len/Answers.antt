@@ -2,16 +2,16 @@ use Rattle.std.proofs.Common.{◌∙◌, ap, arith, take}
 use Rattle.std.specs.List.{list_all}
 use Rattle.std.proofs.lemmas.List.{length-take-le}
 use Rattle.clustered_row.specs.Sizes.{is_plain}
-use Rattle.clustered_row.proofs.PlainLemmas.{sizes_few, plain_prefix, plain_all}
+use Rattle.clustered_row.proofs.PlainLemmas.{sizes_bound, plain_prefix, plain_all}
 use Rattle.clustered_row.proofs.texts_left.TextsLeft.plain_len.Goals as goal
 
 pub returns-then-plain-sizes-clause-within : goal.returns-then-plain-sizes-clause-within
 returns-then-plain-sizes-clause-within c =
     let left = c.args.self.now in
-    let few = sizes_few left.sizes.now in
+    let bound = sizes_bound left.sizes.now in
     let bytes = left.bytes in
     let long = length-take-le c.min.result left.sizes.now (omega (arith, c.min.ensures)) in
-    omega (arith, few, bytes, long)
+    omega (arith, bound, bytes, long)
 
 pub returns-then-plain-sizes-clause-plain : goal.returns-then-plain-sizes-clause-plain
 returns-then-plain-sizes-clause-plain c =

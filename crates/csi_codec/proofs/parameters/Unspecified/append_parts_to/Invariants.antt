@@ -1,4 +1,4 @@
--- What was there, ESC [ and the tokens written so far.
+-- the bytes from before, ESC [ and the tokens written so far
 use Rattle.std.proofs.Common.{◌≡◌, ◌++◌, take}
 use Rattle.csi_codec.specs.Writing.{opened_text}
 use Rattle.csi_codec.proofs.parameters.Unspecified.append_parts_to.Given as goal

@@ -6,10 +6,10 @@ use Rattle.csi_codec.proofs.text.SequenceText.push_number.Goals as goal
 
 pub push_large_number-requires : goal.push_large_number-requires
 push_large_number-requires c =
-    let few : length (decimal c.args.number) ≤ 10 = length-decimal-le 10 c.args.number (omega arith) (omega arith) (omega arith) in
+    let digits : length (decimal c.args.number) ≤ 10 = length-decimal-le 10 c.args.number (omega arith) (omega arith) (omega arith) in
     omega arith
 
 pub returns-else-number-lt256-clause-short : goal.returns-else-number-lt256-clause-short
 returns-else-number-lt256-clause-short c =
-    let few : length (decimal c.args.number) ≤ 10 = length-decimal-le 10 c.args.number (omega arith) (omega arith) (omega arith) in
+    let digits : length (decimal c.args.number) ≤ 10 = length-decimal-le 10 c.args.number (omega arith) (omega arith) (omega arith) in
     omega (arith, ap length c.push_large_number.ensures, length-append c.args.self.now (decimal c.args.number))

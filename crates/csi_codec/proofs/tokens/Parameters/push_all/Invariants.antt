@@ -1,4 +1,4 @@
--- What was pushed, and then the parameter bytes after it, is the whole.
+-- the pushed bytes, followed by the parameter bytes after them, are the parameter bytes at the start of all bytes
 use Rattle.std.proofs.Common.{◌≡◌, ◌+◌, drop, fold, take}
 use Rattle.std.specs.List.{prefix_len}
 use Rattle.csi_codec.specs.Tokens.{is_parameter, with_byte}

@@ -5,7 +5,7 @@ use Rattle.screen_difference.specs.ShownCells.{differing}
 use Rattle.screen_difference.proofs.TextLemmas.{mixed}
 use Rattle.screen_difference.proofs.fast.plain_cells.write_differing.Given as goal
 
--- what is written, those that wait, and then what is left, are the whole
+-- the cells written so far, the pending ones from `from` to `at`, and those that differ from `at` on are all that differ
 abbrev pub invariant-loop-at : goal.invariant-loop-at
 invariant-loop-at l = record {
   order : l.from ≤ l.at;

@@ -5,7 +5,7 @@ use Rattle.screen_difference.specs.FreshCells.{placed}
 use Rattle.screen_difference.specs.ShownCells.{from_column, passed_fresh, shown_left, Fits}
 use Rattle.screen_difference.proofs.fast.plain_cells.write_text.Given as goal
 
--- what is written, and then what is left, are the whole
+-- the cells written so far, and then the fresh cells of the rest of the text, are all fresh cells of the text
 abbrev pub invariant-loop-at : goal.invariant-loop-at
 invariant-loop-at l = record {
   within : l.at ≤ length l.text;

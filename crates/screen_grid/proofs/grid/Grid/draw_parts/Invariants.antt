@@ -4,7 +4,7 @@ use Rattle.std.proofs.Common.{length}
 use Rattle.screen_grid.specs.Parts.{PartsLead}
 use Rattle.screen_grid.proofs.grid.Grid.draw_parts.Given as goal
 
--- what is left leads to the whole
+-- the rest of the text gives the same display on the current grid as the whole text on the first one
 abbrev pub invariant-loop-control : goal.invariant-loop-control
 invariant-loop-control g l = record {
   leads : PartsLead (g.W.Widths.width_of l.fn.self.widths) l.fn.self l.self l.text l.rest;

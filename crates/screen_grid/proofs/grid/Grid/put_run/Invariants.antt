@@ -5,7 +5,7 @@ use Rattle.cell_base.specs.Cluster.{clusters}
 use Rattle.screen_grid.specs.Grid.{LeadsOn}
 use Rattle.screen_grid.proofs.grid.Grid.put_run.Given as goal
 
--- what is left leads to the whole
+-- the remaining clusters give the same display on the current grid as all clusters on the first one
 abbrev pub invariant-loop-cluster : goal.invariant-loop-cluster
 invariant-loop-cluster g l = record {
   leads : LeadsOn (g.W.Widths.width_of l.fn.self.widths) l.fn.self l.self (clusters l.text) (clusters l.left);

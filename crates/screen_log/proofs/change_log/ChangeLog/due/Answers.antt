@@ -11,7 +11,7 @@ use Rattle.screen_log.specs.LogView.{log_of}
 use Rattle.screen_log.proofs.StoredLemmas.{count, due_here, from_number}
 use Rattle.screen_log.proofs.change_log.ChangeLog.due.Goals as goal
 
--- what stands from a position on
+-- the changes from a position on
 to_end : (at : ℕ) (changes : List Change) → take (length changes - at) (drop at changes) ≡ drop at changes
 to_end at changes = take_all (length changes - at) (drop at changes) (let n = length-drop at changes in omega arith)
 
@@ -21,7 +21,7 @@ returns c =
     let items = a.changes.items in
     let lent = c.deref.result.now in
     let number = c.args.number in
-    let within : a.start ≤ length items = let g = c.self.invariant.few_dropped in omega arith in
+    let within : a.start ≤ length items = let g = c.self.invariant.half_dropped in omega arith in
     let numbered = c.self.invariant.numbered in
     let at = a.start + (number - (a.number - (length items - a.start))) in
     let at_len = a.start + (number - (a.number - (c.len.result - a.start))) in

@@ -11,7 +11,7 @@ returns-then-number-self c =
     let a = c.self.inside in
     let items = a.changes.items in
     let number = c.args.number in
-    let within : a.start ≤ length items = let g = c.self.invariant.few_dropped in omega arith in
+    let within : a.start ≤ length items = let g = c.self.invariant.half_dropped in omega arith in
     let numbered = c.self.invariant.numbered in
     let many : c.len.result ≡ length items = omega arith in
     let position = a.start + c.saturating_sub.result in

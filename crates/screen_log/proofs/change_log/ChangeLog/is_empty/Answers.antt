@@ -7,7 +7,7 @@ pub returns : goal.returns
 returns c =
     let a = c.self.inside in
     let items = a.changes.items in
-    let within : a.start ≤ length items = let g = c.self.invariant.few_dropped in omega arith in
+    let within : a.start ≤ length items = let g = c.self.invariant.half_dropped in omega arith in
     let len = c.len.ensures in
     let shown = ap (λ (s : Sized). s.log.entries) c.self.view_is in (
       λ t. sym shown ∙ none_left items a.start a.most within (let e = eqb-true a.start c.len.result t in omega arith),

@@ -12,7 +12,7 @@ returns-then-self-len-clause-done c =
     let items = a.changes.items in
     let more = c.if-self-len.true in
     let kept = c.self.invariant.kept in
-    let within : a.start ≤ length items = let g = c.self.invariant.few_dropped in omega arith in
+    let within : a.start ≤ length items = let g = c.self.invariant.half_dropped in omega arith in
     let len = c.push_reserved.ensures.len in
     let reserved = c.in_ok-reserve.ensures.len in
     let first : a.start + 1 ≡ max a.start (length items + 1 - a.most) = omega arith in

@@ -4,5 +4,5 @@ use Rattle.escape_stream.specs.StreamActionView.{value_of}
 use Rattle.terminal_render.specs.BorrowedActionView.{borrowed_values}
 use Rattle.terminal_render.proofs.actions.Actions.to_vec.Given as goal
 
-abbrev pub invariant-loop-sent : goal.invariant-loop-sent
-invariant-loop-sent l = map value_of l.actions.items ≡ borrowed_values (take l.sent-index l.sent-items)
+abbrev pub invariant-loop-action : goal.invariant-loop-action
+invariant-loop-action l = map value_of l.actions.items ≡ borrowed_values (take l.action-index l.action-items)
