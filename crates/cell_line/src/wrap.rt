@@ -129,7 +129,7 @@ fn close_row(
 }
 
 // The cell goes into the open row, or begins a new one where it doesn't fit.
-fn position(
+fn append_cell(
     alloc: Global,
     lines: &mut Vec<Line>,
     row: &mut Vec<Cell>,
@@ -191,7 +191,7 @@ fn fill_rows(
     let mut open = Vec::new(alloc);
     for (column, cell) in TakenCells::new(cells) {
         if is_kept(last, column) {
-            position(alloc, &mut lines, &mut open, cell, width, seqno)?;
+            append_cell(alloc, &mut lines, &mut open, cell, width, seqno)?;
         }
     }
     lines.push(Line::from_cells(alloc, open, seqno))?;

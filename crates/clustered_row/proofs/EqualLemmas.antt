@@ -139,7 +139,7 @@ module _ (c d : Row) (n m w v : ℕ) (a b : Attributes) (whole : IsWhole c) (oth
       record {
         order = omega (arith, i, p);
         prefix = take-append-le n c (replicate (w - length c) (blank a)) i ∙ e ∙ sym (take-append-le n d (replicate (v - length d) (blank b)) j);
-        back = back;
+        suffix = back;
         first = whole_at n (shown c w a) all_whole (split_prefix c n (w - length c) a h);
         other_first = whole_at n (shown d v b) other_all_whole (split_prefix d n (v - length d) b k);
         last = whole_at m (shown c w a) all_whole (split_after c (w - length c) m a p);
@@ -153,7 +153,7 @@ module _ (c d : Row) (n m w v : ℕ) (a b : Attributes) (whole : IsWhole c) (oth
       record {
         order = i;
         prefix = take-append-le n c (replicate (w - length c) (blank a)) (omega (arith, i, p)) ∙ e ∙ sym (take-append-le n d (replicate (v - length d) (blank b)) j);
-        back = drop-append-le m c (replicate (w - length c) (blank a)) p ∙ (λ i. back i ++ replicate (x i - q i) (blank (y i))) ∙ sym (drop-append-le m d (replicate (v - length d) (blank b)) (omega (arith, p, q)));
+        suffix = drop-append-le m c (replicate (w - length c) (blank a)) p ∙ (λ i. back i ++ replicate (x i - q i) (blank (y i))) ∙ sym (drop-append-le m d (replicate (v - length d) (blank b)) (omega (arith, p, q)));
         first = whole_at n (shown c w a) all_whole (split_prefix c n (w - length c) a h);
         other_first = whole_at n (shown d v b) other_all_whole (split_prefix d n (v - length d) b k);
         last = whole_at m (shown c w a) all_whole (split_prefix c m (w - length c) a f);

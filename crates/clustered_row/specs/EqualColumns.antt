@@ -12,7 +12,7 @@ pub record IsWholeAt (at : ℕ) (row : Row) : Type 0 where
 pub record AreEqualAround (start stop : ℕ) (row other : Row) : Type 0 where
   pub order : start ≤ stop
   pub prefix : take start row ≡ take start other
-  pub back : drop stop row ≡ drop stop other
+  pub suffix : drop stop row ≡ drop stop other
   pub first : IsWholeAt start row
   pub other_first : IsWholeAt start other
   pub last : IsWholeAt stop row

@@ -64,10 +64,10 @@ opened at faces = closed_end (take at faces) ++ closed_start (drop at faces)
 abbrev pub padded : ℕ → List Face → List Face
 padded columns faces = faces ++ replicate (columns - length faces) (Own space)
 
--- the faces with `remaining` set from a column on; halves left alone on either side become spaces
+-- the faces with `added` set from a column on; halves left alone on either side become spaces
 abbrev pub set_faces : List Face → ℕ → List Face → List Face
-set_faces faces at remaining =
-    closed_end (take at faces) ++ remaining ++ closed_start (drop (at + length remaining) faces)
+set_faces faces at added =
+    closed_end (take at faces) ++ added ++ closed_start (drop (at + length added) faces)
 
 -- whether the first face is the right half of a wide text
 abbrev pub starts_right : List Face → Bool

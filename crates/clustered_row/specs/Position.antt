@@ -18,8 +18,8 @@ pub record IsSplit (sizes : List CellSize) (position : Position) (at : ℕ) (def
 
 -- each position after at most `count` cells stays one
 abbrev pub KeepsPositions : ℕ → List CellSize → List CellSize → Type 0
-KeepsPositions count sizes remaining = (position : Position) → position.index ≤ count → IsPosition sizes position
-    → IsPosition remaining position
+KeepsPositions count sizes changed = (position : Position) → position.index ≤ count → IsPosition sizes position
+    → IsPosition changed position
 
 -- after the cell at a position, which is a plain one, is a position
 abbrev pub HasPlainCell : List CellSize → Position → Type 0

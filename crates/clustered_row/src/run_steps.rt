@@ -320,11 +320,11 @@ fn join_before(runs: &[Run], kept: usize, run: &mut Run) -> usize
     if kept == 0 {
         return kept;
     }
-    let prefix = &runs[kept - 1];
-    if !has(prefix, &run.attributes) {
+    let previous = &runs[kept - 1];
+    if !has(previous, &run.attributes) {
         return kept;
     }
-    run.count += prefix.count;
+    run.count += previous.count;
     kept - 1
 }
 

@@ -45,14 +45,14 @@ fn are_bytes(text: &str) -> bool
 }
 
 // The largest number of cells tested together.
-const SHORT: usize = 32;
+const TESTED: usize = 32;
 
 // The first few lengths, or all if there are fewer.
 #[tactic(auto, using(std::proofs::lemmas::List::take_min))]
-fn first_short(lens: &[usize]) -> &[usize]
-    ensures { result.now ≡ take SHORT lens.now }
+fn first_tested(lens: &[usize]) -> &[usize]
+    ensures { result.now ≡ take TESTED lens.now }
 {
-    &lens[..SHORT.min(lens.len())]
+    &lens[..TESTED.min(lens.len())]
 }
 
 // How many of the first lengths are 1.
@@ -70,7 +70,7 @@ fn after_plain<'a>(text: &'a str, lens: &'a [usize]) -> (&'a str, &'a [usize])
     ensures same { same_texts (graphemes true result.0.now) (cut_at result.1.now result.0.now)
         ≡ same_texts (graphemes true text.now) (cut_at lens.now text.now) }
 {
-    let (prefix, rest) = split_plain(text, ones(first_short(lens)));
+    let (prefix, rest) = split_plain(text, ones(first_tested(lens)));
     let (_, left) = lens.split_at(prefix.len());
     (rest, left)
 }

@@ -251,7 +251,7 @@ module _ (x close start stop from to : ℕ) (old new : Row) (p : AreEqualAround 
     | inl inside ↦ elim (cases_lt stop close) [
       | inl less ↦ (
           let is : to ≡ stop = omega (arith, t, f, o, less, inside) in
-          ap (λ n. between from n old new) is ∙ less_back from stop close old new (omega (arith, inside)) (omega (arith, less)) (omega (arith, less, l)) (omega (arith, less, g)) p.last p.other_last p.back)
+          ap (λ n. between from n old new) is ∙ less_back from stop close old new (omega (arith, inside)) (omega (arith, less)) (omega (arith, less, l)) (omega (arith, less, g)) p.last p.other_last p.suffix)
       | inr past ↦ (
           let is : to ≡ close = omega (arith, t, f, o, past, inside) in
           ap (λ n. between from n old new) is)
@@ -259,7 +259,7 @@ module _ (x close start stop from to : ℕ) (old new : Row) (p : AreEqualAround 
     | inr after ↦ (
         let order = p.order in
         let is : to ≡ from = omega (arith, t, f, o, after, order) in
-        ap (λ n. between from n old new) is ∙ none_between from old new ∙ sym (same_after from close stop old new after p.back))
+        ap (λ n. between from n old new) is ∙ none_between from old new ∙ sym (same_after from close stop old new after p.suffix))
   ]
 
 -- after the first `skipped` columns of a part, the next n columns have all of its fresh cells

@@ -14,7 +14,7 @@ use Rattle.screen_change.specs.CellRuns.{is_blank_of}
 use Rattle.screen_change.specs.Written.{Written, with_cell as cell_written, with_cells, with_each}
 use Rattle.screen_change.proofs.TextLemmas.{by_test}
 use Rattle.cell_edits.specs.VisibleCells.{VisibleCell, contents, visible_each}
-use Rattle.screen_repaint.specs.Ends.{End, PassesOn, PassesSpaces, are_blanks_with, blanks_at_end, ends_in, plain_cell, with_blanks, with_cell, with_rest}
+use Rattle.screen_repaint.specs.Ends.{End, PassesOn, PassesSpaces, are_blanks_with, blanks_at_end, ends_in, plain_cell, with_blanks, with_cell, with_filled}
 use Rattle.screen_repaint.specs.PaintedRows.{WritesOn}
 use Rattle.screen_repaint.proofs.EndLemmas.{stepped}
 use Rattle.screen_repaint.proofs.PaintLemmas.{take_next, cell_more}
@@ -60,7 +60,7 @@ with_plain text attributes end = fold (λ e byte. with_cell e (plain_cell byte a
 zero_no : (n : ℕ) → 0 < n → (n == 0) ≡ false
 zero_no n p = grind (arith, nat_tests)
 
-rest_some : (n : ℕ) (end : End) → 0 < n → with_rest n end ≡ record { cells = end.cells + n; kept = end.cells + n; blanks = None }
+rest_some : (n : ℕ) (end : End) → 0 < n → with_filled n end ≡ record { cells = end.cells + n; kept = end.cells + n; blanks = None }
 rest_some n end p = ap (λ b. if b then end else record { cells = end.cells + n; kept = end.cells + n; blanks = None }) (zero_no n p)
 
 blanks_some : (n : ℕ) (attributes : Attributes) (end : End) (go : Bool) → 0 < n → ends_in end.blanks attributes ≡ go
@@ -68,7 +68,7 @@ blanks_some : (n : ℕ) (attributes : Attributes) (end : End) (go : Bool) → 0 
 blanks_some n attributes end go p e = λ i.
     if zero_no n p i then end else (if e i then record end { cells = end.cells + n } else record { cells = end.cells + n; kept = end.cells; blanks = Some attributes })
 
-rest_count : (n : ℕ) (end : End) → (with_rest n end).cells ≡ end.cells + n
+rest_count : (n : ℕ) (end : End) → (with_filled n end).cells ≡ end.cells + n
 rest_count zero end = omega arith
 rest_count (suc n) end = ap (λ (e : End). e.cells) (rest_some (suc n) end (omega arith))
 
@@ -82,7 +82,7 @@ blanks_count (suc n) attributes end =
 one_blank : (end : End) (cell : CellContent) → is_blank_of cell.attributes.background cell ≡ true → with_cell end cell ≡ with_blanks 1 cell.attributes end
 one_blank end cell e = ap (λ b. stepped end cell b (ends_in end.blanks cell.attributes)) e
 
-one_other : (end : End) (cell : CellContent) → is_blank_of cell.attributes.background cell ≡ false → with_cell end cell ≡ with_rest 1 end
+one_other : (end : End) (cell : CellContent) → is_blank_of cell.attributes.background cell ≡ false → with_cell end cell ≡ with_filled 1 end
 one_other end cell e = ap (λ b. stepped end cell b (ends_in end.blanks cell.attributes)) e
 
 cell_count : (end : End) (cell : CellContent) → (with_cell end cell).cells ≡ end.cells + 1
@@ -109,12 +109,12 @@ blanks_more (suc n) attributes end =
     ∙ sym (blanks_some (suc (suc n)) attributes end false (omega arith) e))
 
 -- another cell after blanks
-rest_over : (n k : ℕ) (attributes : Attributes) (end : End) → with_rest 1 (with_blanks n attributes (with_rest k end)) ≡ with_rest (k + n + 1) end
+rest_over : (n k : ℕ) (attributes : Attributes) (end : End) → with_filled 1 (with_blanks n attributes (with_filled k end)) ≡ with_filled (k + n + 1) end
 rest_over n k attributes end =
     let before = rest_count k end in
-    let between = blanks_count n attributes (with_rest k end) in
-    let all : (with_blanks n attributes (with_rest k end)).cells + 1 ≡ end.cells + (k + n + 1) = omega arith in
-    rest_some 1 (with_blanks n attributes (with_rest k end)) (omega arith)
+    let between = blanks_count n attributes (with_filled k end) in
+    let all : (with_blanks n attributes (with_filled k end)).cells + 1 ≡ end.cells + (k + n + 1) = omega arith in
+    rest_some 1 (with_blanks n attributes (with_filled k end)) (omega arith)
     ∙ ap (λ c. record { cells = c; kept = c; blanks = None }) all
     ∙ sym (rest_some (k + n + 1) end (omega arith))
 
@@ -124,13 +124,13 @@ abbrev blank_at : Attributes → ℕ → Bool
 blank_at attributes byte = is_blank_of attributes.background (plain_cell byte attributes)
 
 reversed_ends : (text : List ℕ) (attributes : Attributes) (end : End)
-    → with_plain (reverse text) attributes end ≡ with_blanks (prefix_len (blank_at attributes) text) attributes (with_rest (length text - prefix_len (blank_at attributes) text) end)
+    → with_plain (reverse text) attributes end ≡ with_blanks (prefix_len (blank_at attributes) text) attributes (with_filled (length text - prefix_len (blank_at attributes) text) end)
 reversed_ends [] attributes end = refl
 reversed_ends (byte ∷ text) attributes end =
     let n : ℕ = prefix_len (blank_at attributes) text in
     let within : n ≤ length text = prefix_len-le-length (blank_at attributes) text in
     let m : ℕ = prefix_len (blank_at attributes) (byte ∷ text) in
-    let before : End = with_blanks n attributes (with_rest (length text - n) end) in
+    let before : End = with_blanks n attributes (with_filled (length text - n) end) in
     ap (λ t. with_plain t attributes end) (reverse_onto text byte [])
     ∙ fold-append (λ e x. with_cell e (plain_cell x attributes)) end (reverse text) (byte ∷ [])
     ∙ ap (λ (e : End). with_cell e (plain_cell byte attributes)) (reversed_ends text attributes end)
@@ -138,22 +138,22 @@ reversed_ends (byte ∷ text) attributes end =
     (λ e.
     let one : suc n ≡ m = (let s : suc n ≡ 1 + n = omega arith in s) ∙ sym (ap (λ b. if b then 1 + n else 0) e) in
     let remaining : length text - n ≡ length (byte ∷ text) - m = omega arith in
-    one_blank before (plain_cell byte attributes) e ∙ blanks_more n attributes (with_rest (length text - n) end) ∙ (λ i. with_blanks (one i) attributes (with_rest (remaining i) end)))
+    one_blank before (plain_cell byte attributes) e ∙ blanks_more n attributes (with_filled (length text - n) end) ∙ (λ i. with_blanks (one i) attributes (with_filled (remaining i) end)))
     (λ e.
     let none : 0 ≡ m = sym (ap (λ b. if b then 1 + n else 0) e) in
     let remaining : length text - n + n + 1 ≡ length (byte ∷ text) - m = omega arith in
-    one_other before (plain_cell byte attributes) e ∙ rest_over n (length text - n) attributes end ∙ (λ i. with_blanks (none i) attributes (with_rest (remaining i) end)))
+    one_other before (plain_cell byte attributes) e ∙ rest_over n (length text - n) attributes end ∙ (λ i. with_blanks (none i) attributes (with_filled (remaining i) end)))
 
 -- the cells of a text are those before the blanks at its end, and then these blanks
-plain_ends : (text : List ℕ) (attributes : Attributes) (end : End) → with_plain text attributes end ≡ with_blanks (blanks_at_end text attributes) attributes (with_rest (length text - blanks_at_end text attributes) end)
+plain_ends : (text : List ℕ) (attributes : Attributes) (end : End) → with_plain text attributes end ≡ with_blanks (blanks_at_end text attributes) attributes (with_filled (length text - blanks_at_end text attributes) end)
 plain_ends text attributes end =
     ap (λ t. with_plain t attributes end) (sym (reverse-reverse text))
     ∙ reversed_ends (reverse text) attributes end
-    ∙ ap (λ k. with_blanks (blanks_at_end text attributes) attributes (with_rest (k - blanks_at_end text attributes) end)) (length-reverse text)
+    ∙ ap (λ k. with_blanks (blanks_at_end text attributes) attributes (with_filled (k - blanks_at_end text attributes) end)) (length-reverse text)
 
 -- the cells before the blanks at a text's end, and then these blanks, are the cells of the text
-pub text_pushed : (text : List ℕ) (attributes : Attributes) (old new : End) (blanks : ℕ) → blanks ≡ blanks_at_end text attributes → new ≡ with_blanks blanks attributes (with_rest (length text - blanks) old) → new ≡ with_plain text attributes old
-text_pushed text attributes old new blanks n e = e ∙ ap (λ k. with_blanks k attributes (with_rest (length text - k) old)) n ∙ sym (plain_ends text attributes old)
+pub text_pushed : (text : List ℕ) (attributes : Attributes) (old new : End) (blanks : ℕ) → blanks ≡ blanks_at_end text attributes → new ≡ with_blanks blanks attributes (with_filled (length text - blanks) old) → new ≡ with_plain text attributes old
+text_pushed text attributes old new blanks n e = e ∙ ap (λ k. with_blanks k attributes (with_filled (length text - k) old)) n ∙ sym (plain_ends text attributes old)
 
 pub blanks_within : (text : List ℕ) (attributes : Attributes) → blanks_at_end text attributes ≤ length text
 blanks_within text attributes = let n = prefix_len-le-length (blank_at attributes) (reverse text) in let all = length-reverse text in omega arith

@@ -34,8 +34,8 @@ with_cell end cell =
     else record { cells = end.cells + 1; kept = end.cells + 1; blanks = None }
 
 -- adds `count` cells that are no blanks
-abbrev pub with_rest : ℕ → End → End
-with_rest count end =
+abbrev pub with_filled : ℕ → End → End
+with_filled count end =
     if count == 0 then end else record { cells = end.cells + count; kept = end.cells + count; blanks = None }
 
 -- adds `count` blanks with these attributes

@@ -10,7 +10,7 @@ ghost use Rattle.cell_views.specs.CellRefView.{cells_left, shown_by};
 ghost use Rattle.screen_repaint.specs.PaintedRows.{AreFilled, IsTail, rows_of};
 ghost use Rattle.screen_repaint.specs.Repaint.{row_cells};
 ghost use Rattle.screen_repaint.specs.Ends.{PassesOn, PassesSpaces, are_blanks_with, end_of, ends_in};
-ghost use Rattle.screen_repaint.specs.Ends.{passing_at_end, with_blanks, with_rest};
+ghost use Rattle.screen_repaint.specs.Ends.{passing_at_end, with_blanks, with_filled};
 
 use crate::fast::pass_plain_spaces;
 use cell_base::CellAttributes;
@@ -77,13 +77,13 @@ impl<'a> RowEnd<'a> {
         self.blanks
     }
 
-    // Adds `remaining` other cells, and then `blanks` blanks with these attributes.
-    pub(crate) fn push(&mut self, remaining: usize, blanks: usize, attrs: &'a CellAttributes)
-        requires { self.old.cells + (remaining + blanks) < 2 ^ 64 }
-        ensures { self.new ≡ with_blanks blanks attrs.now (with_rest remaining self.old) }
+    // Adds `filled` other cells, and then `blanks` blanks with these attributes.
+    pub(crate) fn push(&mut self, filled: usize, blanks: usize, attrs: &'a CellAttributes)
+        requires { self.old.cells + (filled + blanks) < 2 ^ 64 }
+        ensures { self.new ≡ with_blanks blanks attrs.now (with_filled filled self.old) }
     {
-        if remaining > 0 {
-            self.cells += remaining;
+        if filled > 0 {
+            self.cells += filled;
             self.kept = self.cells;
             self.blanks = None;
         }

@@ -112,7 +112,7 @@ pub fn printable_len(bytes: &[u8]) -> usize
 
 // Whether at most eight bytes are printable: of four or more, it tests the first four and the last four.
 #[inline(always)]
-fn fewer_are_printable(bytes: &[u8]) -> bool
+fn eight_are_printable(bytes: &[u8]) -> bool
     requires { length bytes.now ≤ 8 }
     ensures { result ≡ list_all is_printable bytes.now }
 {
@@ -125,12 +125,12 @@ fn fewer_are_printable(bytes: &[u8]) -> bool
 
 // Whether at most sixteen bytes are printable: of eight or more, it tests the first eight and the last eight.
 #[inline(always)]
-fn short_are_printable(bytes: &[u8]) -> bool
+fn sixteen_are_printable(bytes: &[u8]) -> bool
     requires { length bytes.now ≤ LANES }
     ensures { result ≡ list_all is_printable bytes.now }
 {
     if bytes.len() < 8 {
-        return fewer_are_printable(bytes);
+        return eight_are_printable(bytes);
     }
     let last = after(bytes, bytes.len() - 8);
     (half_block_len(bytes) == 8) & (half_block_len(last) == 8)
@@ -142,7 +142,7 @@ pub fn are_printable(bytes: &[u8]) -> bool
     ensures { result ≡ list_all is_printable bytes.now }
 {
     if bytes.len() < LANES {
-        short_are_printable(bytes)
+        sixteen_are_printable(bytes)
     } else {
         printable_len(bytes) == bytes.len()
     }

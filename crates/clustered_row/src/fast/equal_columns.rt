@@ -19,10 +19,10 @@ use crate::texts::Texts;
 use cell_base::CellAttributes;
 
 // Whether bytes are the same.
-fn same_bytes(bytes: &[u8], remaining: &[u8]) -> bool
-    ensures { IsTrue result → bytes.now ≡ remaining.now }
+fn same_bytes(bytes: &[u8], other: &[u8]) -> bool
+    ensures { IsTrue result → bytes.now ≡ other.now }
 {
-    bytes == remaining
+    bytes == other
 }
 
 // Whether two sizes are the same.
@@ -42,17 +42,17 @@ pub(crate) fn same_run(run: &Run, other: &Run) -> bool
 }
 
 // How many bytes at the start of both are the same.
-fn equal_bytes(bytes: &[u8], remaining: &[u8]) -> usize
+fn equal_bytes(bytes: &[u8], other: &[u8]) -> usize
     ensures within { result ≤ length bytes.now }
-    ensures other_within { result ≤ length remaining.now }
-    ensures equal { take result bytes.now ≡ take result remaining.now }
+    ensures other_within { result ≤ length other.now }
+    ensures equal { take result bytes.now ≡ take result other.now }
 {
-    if same_bytes(bytes, remaining) {
+    if same_bytes(bytes, other) {
         return bytes.len();
     }
-    let most = bytes.len().min(remaining.len());
+    let most = bytes.len().min(other.len());
     for at in 0..most {
-        if bytes[at] != remaining[at] {
+        if bytes[at] != other[at] {
             return at;
         }
     }
@@ -60,14 +60,14 @@ fn equal_bytes(bytes: &[u8], remaining: &[u8]) -> usize
 }
 
 // How many sizes at the start of both are the same.
-fn equal_sizes(sizes: &[CellSize], remaining: &[CellSize]) -> usize
+fn equal_sizes(sizes: &[CellSize], other: &[CellSize]) -> usize
     ensures within { result ≤ length sizes.now }
-    ensures other_within { result ≤ length remaining.now }
-    ensures equal { take result sizes.now ≡ take result remaining.now }
+    ensures other_within { result ≤ length other.now }
+    ensures equal { take result sizes.now ≡ take result other.now }
 {
-    let most = sizes.len().min(remaining.len());
+    let most = sizes.len().min(other.len());
     for at in 0..most {
-        if !same_size(&sizes[at], &remaining[at]) {
+        if !same_size(&sizes[at], &other[at]) {
             return at;
         }
     }
@@ -87,16 +87,16 @@ pub(crate) fn equal_part(run: &Run, other: &Run) -> usize
 }
 
 // How many columns at the start of both have the same attributes.
-fn equal_runs(runs: &[Run], remaining: &[Run]) -> usize
+fn equal_runs(runs: &[Run], other_runs: &[Run]) -> usize
     requires small { length (spread runs.now) < 2 ^ 64 }
     ensures within { result ≤ length (spread runs.now) }
-    ensures other_within { result ≤ length (spread remaining.now) }
-    ensures equal { take result (spread runs.now) ≡ take result (spread remaining.now) }
+    ensures other_within { result ≤ length (spread other_runs.now) }
+    ensures equal { take result (spread runs.now) ≡ take result (spread other_runs.now) }
 {
     let mut columns = 0;
-    for at in 0..runs.len().min(remaining.len()) {
+    for at in 0..runs.len().min(other_runs.len()) {
         let run = &runs[at];
-        let other = &remaining[at];
+        let other = &other_runs[at];
         if !same_run(run, other) {
             return columns + equal_part(run, other);
         }

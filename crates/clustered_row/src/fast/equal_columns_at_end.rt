@@ -14,14 +14,14 @@ use crate::runs::Runs;
 use crate::texts::Texts;
 
 // The length of the common suffix of both, at most `most`.
-fn equal_bytes_at_end(bytes: &[u8], remaining: &[u8], most: usize) -> usize
+fn equal_bytes_at_end(bytes: &[u8], other: &[u8], most: usize) -> usize
     requires within { most ≤ length bytes.now }
-    requires other_within { most ≤ length remaining.now }
+    requires other_within { most ≤ length other.now }
     ensures most { result ≤ most }
-    ensures equal { drop (length bytes.now - result) bytes.now ≡ drop (length remaining.now - result) remaining.now }
+    ensures equal { drop (length bytes.now - result) bytes.now ≡ drop (length other.now - result) other.now }
 {
     for count in 0..most {
-        if bytes[bytes.len() - 1 - count] != remaining[remaining.len() - 1 - count] {
+        if bytes[bytes.len() - 1 - count] != other[other.len() - 1 - count] {
             return count;
         }
     }
@@ -29,19 +29,19 @@ fn equal_bytes_at_end(bytes: &[u8], remaining: &[u8], most: usize) -> usize
 }
 
 // How many columns at the end of both have the same attributes.
-fn equal_runs_at_end(runs: &[Run], remaining: &[Run]) -> usize
+fn equal_runs_at_end(runs: &[Run], other_runs: &[Run]) -> usize
     requires small { length (spread runs.now) < 2 ^ 64 }
     ensures within { result ≤ length (spread runs.now) }
-    ensures other_within { result ≤ length (spread remaining.now) }
+    ensures other_within { result ≤ length (spread other_runs.now) }
     ensures equal { drop (length (spread runs.now) - result) (spread runs.now)
-        ≡ drop (length (spread remaining.now) - result) (spread remaining.now) }
+        ≡ drop (length (spread other_runs.now) - result) (spread other_runs.now) }
 {
     let mut columns = 0;
-    for count in 0..runs.len().min(remaining.len()) {
+    for count in 0..runs.len().min(other_runs.len()) {
         let at = runs.len() - 1 - count;
-        let other_at = remaining.len() - 1 - count;
+        let other_at = other_runs.len() - 1 - count;
         let run = &runs[at];
-        let other = &remaining[other_at];
+        let other = &other_runs[other_at];
         if !same_run(run, other) {
             return columns + equal_part(run, other);
         }

@@ -26,11 +26,11 @@ loop-column-preserved-in-Continue-1 c =
     let there : vec_len c.loop-column.open ≡ length row = c.loop-column.open.ok.0 ∙ sym (length-row c.loop-column.open.items) in
     let kept : p c.in-Some.column ≡ true = sym c.is_kept.ensures ∙ c.if-is_kept.true in
     record {
-      whole = c.in_ok-position.ensures.whole;
+      whole = c.in_ok-append_cell.ensures.whole;
       lines =
-          placed (breaks width (length row) cell) lines c.position.new.lines.items (row_end_wrapped true row) (row_of_cells c.position.new.row.items) (cell_columns cell) (row ++ cell_columns cell) c.args.seqno rest
-          (c.in_ok-position.ensures.lines ∙ ap (λ n. if breaks width n cell then lines ++ line_of c.args.seqno (row_end_wrapped true row) ∷ [] else lines) there)
-          (c.in_ok-position.ensures.row ∙ ap (λ n. if breaks width n cell then cell_columns cell else row ++ cell_columns cell) there)
+          placed (breaks width (length row) cell) lines c.append_cell.new.lines.items (row_end_wrapped true row) (row_of_cells c.append_cell.new.row.items) (cell_columns cell) (row ++ cell_columns cell) c.args.seqno rest
+          (c.in_ok-append_cell.ensures.lines ∙ ap (λ n. if breaks width n cell then lines ++ line_of c.args.seqno (row_end_wrapped true row) ∷ [] else lines) there)
+          (c.in_ok-append_cell.ensures.row ∙ ap (λ n. if breaks width n cell then cell_columns cell else row ++ cell_columns cell) there)
           ∙ ap (λ (ws : List VisibleCell). lines ++ map (line_of c.args.seqno) (rows_from width row (contents ws))) (sym (ap (λ t. if t then v ∷ left else left) kept) ∙ sym (ap (filter (λ w. p w.column)) c.in-Some.ensures.steps))
           ∙ c.loop-column.invariant.lines;
     }

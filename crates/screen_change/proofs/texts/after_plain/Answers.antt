@@ -8,14 +8,14 @@ use Rattle.screen_change.proofs.texts.after_plain.Goals as goal
 pub split_at-requires : goal.split_at-requires
 split_at-requires c =
     let lens = c.args.lens.now in
-    let short = ones_short lens c.first_short.result.now c.ones.result 32 c.first_short.ensures c.ones.ensures in
+    let short = ones_short lens c.first_tested.result.now c.ones.result 32 c.first_tested.ensures c.ones.ensures in
     let prefix = plain_count c.args.text.now c.split_plain.result.0.now c.ones.result c.split_plain.ensures.prefix in
     omega (arith, prefix.0, short, prefix_len-le-length (λ n. n == 1) lens)
 
 pub returns-clause-within : goal.returns-clause-within
 returns-clause-within c =
     let lens = c.args.lens.now in
-    let short = ones_short lens c.first_short.result.now c.ones.result 32 c.first_short.ensures c.ones.ensures in
+    let short = ones_short lens c.first_tested.result.now c.ones.result 32 c.first_tested.ensures c.ones.ensures in
     let prefix = c.split_plain.result.0.now in
     let counts = plain_count c.args.text.now prefix c.ones.result c.split_plain.ensures.prefix in
     let left = bytes_prefix (length prefix) lens (omega (arith, counts.0, short)) in
@@ -25,7 +25,7 @@ returns-clause-within c =
 pub returns-clause-same : goal.returns-clause-same
 returns-clause-same c =
     let lens = c.args.lens.now in
-    let short = ones_short lens c.first_short.result.now c.ones.result 32 c.first_short.ensures c.ones.ensures in
+    let short = ones_short lens c.first_tested.result.now c.ones.result 32 c.first_tested.ensures c.ones.ensures in
     let prefix = c.split_plain.result.0.now in
     let rest = c.split_plain.result.1.now in
     let counts = plain_count c.args.text.now prefix c.ones.result c.split_plain.ensures.prefix in

@@ -23,14 +23,14 @@ returns-then-not-same_run-clause-other_within c =
     let at = c.loop-at.at in
     let least = c.min-at-end.ensures in
     let counted = c.loop-at.invariant.counted ∙ ap (λ (zs : List Run). length (spread zs)) c.loop-at.invariant.same in
-    part_within c.args.remaining.now at c.equal_part.result c.loop-at.columns c.index-remaining-at.result (omega (arith, c.loop-at-test.true, least)) c.index-remaining-at.is counted c.equal_part.ensures.other_within
+    part_within c.args.other_runs.now at c.equal_part.result c.loop-at.columns c.index-other_runs-at.result (omega (arith, c.loop-at-test.true, least)) c.index-other_runs-at.is counted c.equal_part.ensures.other_within
 
 pub returns-then-not-same_run-clause-equal : goal.returns-then-not-same_run-clause-equal
 returns-then-not-same_run-clause-equal c =
     let least = c.min-at-end.ensures in
     let part = c.equal_part.ensures in
-    same_part c.args.runs.now c.args.remaining.now c.loop-at.at c.equal_part.result c.loop-at.columns c.index-runs-at.result c.index-remaining-at.result
-    (omega (arith, c.loop-at-test.true, least)) (omega (arith, c.loop-at-test.true, least)) c.index-runs-at.is c.index-remaining-at.is
+    same_part c.args.runs.now c.args.other_runs.now c.loop-at.at c.equal_part.result c.loop-at.columns c.index-runs-at.result c.index-other_runs-at.result
+    (omega (arith, c.loop-at-test.true, least)) (omega (arith, c.loop-at-test.true, least)) c.index-runs-at.is c.index-other_runs-at.is
     c.loop-at.invariant.same c.loop-at.invariant.counted part.within part.other_within part.equal
 
 pub overflow_add-columns : goal.overflow_add-columns
@@ -47,8 +47,8 @@ returns-clause-within c = runs_within c.args.runs.now c.loop-at.at c.loop-at.col
 pub returns-clause-other_within : goal.returns-clause-other_within
 returns-clause-other_within c =
     let counted = c.loop-at.invariant.counted ∙ ap (λ (zs : List Run). length (spread zs)) c.loop-at.invariant.same in
-    runs_within c.args.remaining.now c.loop-at.at c.loop-at.columns counted
+    runs_within c.args.other_runs.now c.loop-at.at c.loop-at.columns counted
 
 pub returns-clause-equal : goal.returns-clause-equal
 returns-clause-equal c =
-    same_runs_prefix c.args.runs.now c.args.remaining.now c.loop-at.at c.loop-at.columns c.loop-at.invariant.same c.loop-at.invariant.counted
+    same_runs_prefix c.args.runs.now c.args.other_runs.now c.loop-at.at c.loop-at.columns c.loop-at.invariant.same c.loop-at.invariant.counted

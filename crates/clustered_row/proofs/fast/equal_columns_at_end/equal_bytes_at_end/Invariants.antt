@@ -3,4 +3,4 @@ use Rattle.clustered_row.proofs.fast.equal_columns_at_end.equal_bytes_at_end.Giv
 
 -- the last `count` bytes are equal
 abbrev pub invariant-loop-count : goal.invariant-loop-count
-invariant-loop-count l = drop (length l.bytes - l.count) l.bytes ≡ drop (length l.remaining - l.count) l.remaining
+invariant-loop-count l = drop (length l.bytes - l.count) l.bytes ≡ drop (length l.other - l.count) l.other

@@ -2,7 +2,7 @@ use Rattle.std.proofs.Common.{◌∙◌, arith}
 use Rattle.std.specs.Prelude.{◌==◌, ◌&&◌}
 use Rattle.text_clusters.specs.Plain.{is_printable}
 use Rattle.text_clusters.proofs.LaneLemmas.{both_blocks}
-use Rattle.text_clusters.proofs.printable.short_are_printable.Goals as goal
+use Rattle.text_clusters.proofs.printable.sixteen_are_printable.Goals as goal
 
 pub returns : goal.returns
 returns c =

@@ -2,7 +2,7 @@ use Rattle.std.proofs.Common.{◌∙◌, ap, length, arith}
 use Rattle.std.specs.Prelude.{◌==◌, ◌&&◌}
 use Rattle.text_clusters.specs.Plain.{is_printable}
 use Rattle.text_clusters.proofs.LaneLemmas.{all_by_len, both_blocks}
-use Rattle.text_clusters.proofs.printable.fewer_are_printable.Goals as goal
+use Rattle.text_clusters.proofs.printable.eight_are_printable.Goals as goal
 
 pub returns-then-bytes-lt4 : goal.returns-then-bytes-lt4
 returns-then-bytes-lt4 c = ap (λ n. n == length c.args.bytes.now) c.short_len.ensures ∙ all_by_len is_printable c.args.bytes.now
