@@ -25,12 +25,12 @@ abbrev pub width_style : Bool → ℕ → List ℕ
 width_style is_set columns =
     if is_set then codes "display:inline-block;width:" ++ decimal columns ++ codes "ch;" else []
 
-abbrev pub ink_style : Attributes → List ℕ
-ink_style a = color_style (codes "color") (hex_color (text_color a))
+abbrev pub text_style : Attributes → List ℕ
+text_style a = color_style (codes "color") (hex_color (text_color a))
 
 -- the style of cells that take some columns, which are set or those of the font
 unfoldable pub html_style : Attributes → Bool → ℕ → List ℕ
-html_style a is_set columns = ink_style a ++ (background_style a ++ (rendition_style a ++ width_style is_set columns))
+html_style a is_set columns = text_style a ++ (background_style a ++ (rendition_style a ++ width_style is_set columns))
 
 -- a link where there is one
 abbrev pub html_name : List ℕ → List ℕ

@@ -3,7 +3,7 @@ ghost use Rattle.std.specs.Prelude.{◌≡◌, ◌++◌, map, IfOk, OnOk};
 ghost use Rattle.std.specs.String.{string_bytes};
 ghost use Rattle.cell_surface.specs.Surface.{shown_by};
 ghost use Rattle.screen_formats.specs.Html.{background_style, html_element, html_name, html_row, html_rows, html_run};
-ghost use Rattle.screen_formats.specs.Html.{html_style, html_text, ink_style, is_uneven, screen_style, width_style};
+ghost use Rattle.screen_formats.specs.Html.{html_style, html_text, text_style, is_uneven, screen_style, width_style};
 ghost use Rattle.screen_formats.specs.Tokens.{tokens_text};
 ghost use Rattle.screen_formats.specs.declared.escape.Markup.TheVariants.{Html};
 
@@ -51,8 +51,8 @@ fn width_style(alloc: Global, is_set: bool, columns: usize) -> Result<String, Al
 }
 
 // The declaration of the colour of a text.
-fn ink_style(alloc: Global, attrs: &CellAttributes) -> Result<String, AllocError>
-    ensures { IfOk result (λ style. string_bytes style ≡ ink_style attrs.now) }
+fn text_style(alloc: Global, attrs: &CellAttributes) -> Result<String, AllocError>
+    ensures { IfOk result (λ style. string_bytes style ≡ text_style attrs.now) }
 {
     let style = color_style(alloc, "color", text_color(attrs))?;
     Ok(style)
@@ -68,7 +68,7 @@ fn html_style(
 ) -> Result<String, AllocError>
     ensures { IfOk result (λ style. string_bytes style ≡ html_style attrs.now is_set columns) }
 {
-    let color = ink_style(alloc, attrs)?;
+    let color = text_style(alloc, attrs)?;
     let background = background_style(alloc, attrs)?;
     let rendition = rendition_style(alloc, attrs)?;
     let width = width_style(alloc, is_set, columns)?;

@@ -38,9 +38,9 @@ pub(crate) fn push_text<'a>(actions: &mut Actions<'a>, text: &'a str) -> Result<
 {
     let (prefix, mut rest) = split_at_control(text);
     push_plain(actions, prefix)?;
-    while let Some((control, appended)) = split_control(rest) {
+    while let Some((control, after)) = split_control(rest) {
         push_control(actions, control)?;
-        let (prefix, remaining) = split_at_control(appended);
+        let (prefix, remaining) = split_at_control(after);
         push_plain(actions, prefix)?;
         rest = remaining;
     }

@@ -23,9 +23,9 @@ fn bytes_after_others(rt: HostRuntime) {
 }
 
 // Two commands differ.
-fn assert_differ<R: Abort + AllocGlobal>(rt: &R, parts: &[&[u8]], remaining: &[&[u8]]) {
+fn assert_differ<R: Abort + AllocGlobal>(rt: &R, parts: &[&[u8]], other_parts: &[&[u8]]) {
     let command = OperatingSystemCommand::parse(rt.alloc(), parts).expect(rt, "memory");
-    let other = OperatingSystemCommand::parse(rt.alloc(), remaining).expect(rt, "memory");
+    let other = OperatingSystemCommand::parse(rt.alloc(), other_parts).expect(rt, "memory");
     assert!(rt; command != other);
 }
 

@@ -141,10 +141,10 @@ fn lists_of_parameters(rt: HostRuntime) {
     assert_begins(&rt, &entries, "Cracked { ");
     assert_begins(&rt, &ParamCursor::start(), "ParamCursor { ");
     assert_begins(&rt, &OneBased::new(3), "OneBased { ");
-    let prefix = read_csi(rt.alloc(), b"\x1b[5Hx").expect(&rt, "memory");
+    let sequence = read_csi(rt.alloc(), b"\x1b[5Hx").expect(&rt, "memory");
     assert_debug(
         &rt,
-        &prefix.expect(&rt, "a sequence"),
+        &sequence.expect(&rt, "a sequence"),
         "CsiFront { params: [Integer(5)], truncated: false, control: 'H', rest: [120] }",
     );
 }

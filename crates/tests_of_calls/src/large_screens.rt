@@ -17,11 +17,11 @@ fn assert_same<R: Abort + AllocGlobal>(rt: &R, terminal: &Plain, viewer: &Plain)
         .surface()
         .screen_chars_to_string()
         .expect(rt, "memory");
-    let remaining = viewer
+    let shown = viewer
         .surface()
         .screen_chars_to_string()
         .expect(rt, "memory");
-    assert!(rt; rows.as_str() == remaining.as_str());
+    assert!(rt; rows.as_str() == shown.as_str());
     let position = terminal.surface().cursor_position();
     assert_eq!(rt; viewer.surface().cursor_position(), position);
 }

@@ -81,10 +81,10 @@ fn prefixes_of_long_lists(rt: HostRuntime) {
         .extend_from_slice(&times(&rt, b"1;", 10_000))
         .expect(&rt, "memory");
     bytes.extend_from_slice(b"mx").expect(&rt, "memory");
-    let prefix = read_csi(rt.alloc(), &bytes).expect(&rt, "memory");
-    let prefix = prefix.expect(&rt, "sequence");
-    assert_eq!(rt; prefix.params.len(), 256);
-    assert!(rt; prefix.truncated && prefix.control == 'm' && prefix.rest == b"x".as_slice());
+    let sequence = read_csi(rt.alloc(), &bytes).expect(&rt, "memory");
+    let sequence = sequence.expect(&rt, "sequence");
+    assert_eq!(rt; sequence.params.len(), 256);
+    assert!(rt; sequence.truncated && sequence.control == 'm' && sequence.rest == b"x".as_slice());
 }
 
 #[test]

@@ -200,12 +200,12 @@ fn lines_of_other_numbers_or_bits_differ(rt: HostRuntime) {
 }
 
 // Whether the line of a text after that of another is the same in each form of both.
-fn joins<R: Abort + AllocGlobal>(rt: &R, prefix: &str, back: &str, whole: &str) -> bool {
+fn joins<R: Abort + AllocGlobal>(rt: &R, first: &str, second: &str, whole: &str) -> bool {
     let expected = plain_line(rt, whole);
     let mut does = true;
     for form in &FORMS {
-        let mut line = in_form(rt, &plain_line(rt, prefix), *form);
-        let after = in_form(rt, &plain_line(rt, back), *form);
+        let mut line = in_form(rt, &plain_line(rt, first), *form);
+        let after = in_form(rt, &plain_line(rt, second), *form);
         line.append_line(after, 5).expect(rt, "memory");
         does = does && line == expected;
     }

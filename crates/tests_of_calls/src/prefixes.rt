@@ -3,10 +3,10 @@ use csi_codec::{CsiParam, read_csi};
 
 #[test]
 fn copies_of_prefixes(rt: HostRuntime) {
-    let prefix = read_csi(rt.alloc(), b"\x1b[2;5Hx").expect(&rt, "memory");
-    let prefix = prefix.expect(&rt, "a sequence");
-    let copy = prefix.try_clone().expect(&rt, "memory");
-    assert!(rt; copy == prefix);
+    let sequence = read_csi(rt.alloc(), b"\x1b[2;5Hx").expect(&rt, "memory");
+    let sequence = sequence.expect(&rt, "a sequence");
+    let copy = sequence.try_clone().expect(&rt, "memory");
+    assert!(rt; copy == sequence);
     assert_eq!(rt; copy.control, 'H');
     assert!(rt; !copy.truncated);
     assert_eq!(rt; copy.rest, b"x".as_slice());
