@@ -1,4 +1,4 @@
-//! Control sequences, read and written over and over.
+//! Control sequences, read and written repeatedly.
 use csi_codec::{CSI, CsiFront, CsiParam, read_csi};
 use std::alloc::Global;
 use std::fmt::Write;
@@ -7,7 +7,7 @@ fn prefix(alloc: Global, input: &[u8]) -> Option<CsiFront<'_>> {
     read_csi(alloc, input).ok()?
 }
 
-// Reads a list so often, and counts its actions. A function of its own, so that no other loop takes its registers.
+// Reads a list `count` times, and counts its actions. A function of its own, so that no other loop takes its registers.
 #[inline(never)]
 fn read_over(
     alloc: Global,
@@ -26,7 +26,7 @@ fn read_over(
     Some(sum)
 }
 
-/// Reads the list of the control sequence at the start so often, and counts its actions.
+/// Reads the list of the control sequence at the start of the input `count` times, and counts its actions.
 pub fn read(alloc: Global, input: &[u8], count: u32) -> Option<u64> {
     let prefix = prefix(alloc, input)?;
     read_over(
@@ -38,7 +38,7 @@ pub fn read(alloc: Global, input: &[u8], count: u32) -> Option<u64> {
     )
 }
 
-// Writes an action so often, and counts the bytes, in a function of its own too.
+// Writes an action `count` times, and counts the bytes, in a function of its own too.
 #[inline(never)]
 fn write_over(alloc: Global, action: &CSI, count: u32) -> Option<u64> {
     let mut text = String::new(alloc);
@@ -51,7 +51,7 @@ fn write_over(alloc: Global, action: &CSI, count: u32) -> Option<u64> {
     Some(sum)
 }
 
-/// Writes the first action of the control sequence at the start so often, and counts the bytes.
+/// Writes the first action of the control sequence at the start of the input `count` times, and counts the bytes.
 pub fn write(alloc: Global, input: &[u8], count: u32) -> Option<u64> {
     let prefix = prefix(alloc, input)?;
     let mut actions = CSI::parse(alloc, &prefix.params, prefix.truncated, prefix.control);

@@ -1,8 +1,8 @@
-//! Runs one part of the stack over standard input, to be measured, and prints a number that rests on all that it did.
+//! Runs one part of the stack over standard input, to be measured, and prints a number that depends on all its results.
 //!
-//! - `lists`: control sequences, read and written over and over.
+//! - `lists`: control sequences, read and written repeatedly.
 //! - `parts`: the parts of the stack that can be measured.
-//! - `resizes`: a terminal that is resized again and again.
+//! - `resizes`: a terminal that is resized repeatedly.
 //! - `surfaces`: surfaces that are changed.
 #![tactic(auto)]
 
@@ -16,7 +16,7 @@ use std::io::Read;
 use std::process::ExitCode;
 use std::{env, io};
 
-// How often a part is run.
+// How often a part is run: the second argument, or once.
 fn count_in(words: &[String]) -> u32 {
     match words.get(2) {
         None => 1,
@@ -24,7 +24,7 @@ fn count_in(words: &[String]) -> u32 {
     }
 }
 
-// The part of the name that the words give.
+// The part of the stack that the first argument names.
 fn part_in(words: &[String]) -> Option<Part> {
     Part::named(words.get(1)?.as_str())
 }

@@ -70,7 +70,7 @@ impl Part {
         }
     }
 
-    /// Runs the part over the input so often, and answers a number that rests on all that it did.
+    /// Runs the part over the input `count` times, and returns a number that depends on all its results.
     pub fn run(self, alloc: Global, input: &[u8], count: u32) -> Option<u64> {
         match self {
             Part::ReadList => lists::read(alloc, input, count),

@@ -1,4 +1,4 @@
-//! A terminal that is resized again and again.
+//! A terminal that is resized repeatedly.
 ghost use Rattle.cell_base.specs.ScreenSize.{IsScreenSize};
 
 use std::alloc::Global;

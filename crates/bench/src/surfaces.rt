@@ -30,7 +30,7 @@ fn split<'a>(alloc: Global, input: &'a [u8], separator: &str) -> Option<Vec<&'a 
     Some(parts)
 }
 
-// A text joins the surface.
+// Adds a text to the surface.
 fn add_text(surface: &mut Plain, text: &str) -> Option<()> {
     let mut own = surface.pooled_text();
     own.push_str(text).ok()?;
@@ -45,7 +45,7 @@ fn add_lines(surface: &mut Plain, lines: &[&str]) -> Option<()> {
     Some(())
 }
 
-/// Adds each line of the input, with the CR LF that ends it, to a surface of 80 columns and 24 rows, so often.
+/// Adds each line of the input, with the CR LF that ends it, to a surface of 80 columns and 24 rows, `count` times.
 pub fn lines(alloc: Global, input: &[u8], count: u32) -> Option<u64> {
     let lines = split_inclusive(alloc, input, "\n")?;
     let mut surface = surface_of(alloc, 80, 24)?;
@@ -67,7 +67,7 @@ fn add_words(surface: &mut Plain, words: &[&str]) -> Option<()> {
 }
 
 /// Adds each word of the input with the space that ends it, and after it an attribute, to a surface of 80 columns and
-/// 24 rows, so often.
+/// 24 rows, `count` times.
 pub fn words(alloc: Global, input: &[u8], count: u32) -> Option<u64> {
     let words = split_inclusive(alloc, input, " ")?;
     let mut surface = surface_of(alloc, 80, 24)?;
@@ -89,7 +89,7 @@ fn add_and_take(surface: &mut Plain, lines: &[&str]) -> Option<u64> {
 }
 
 /// Adds each line of the input, which ends in CR LF, to a surface of this size without the LF, so that nothing scrolls,
-/// and takes the changes after each, so often.
+/// and takes the changes after each, `count` times.
 pub fn due(alloc: Global, input: &[u8], width: usize, height: usize, count: u32) -> Option<u64> {
     let lines = split(alloc, input, "\n")?;
     let mut surface = surface_of(alloc, width, height)?;
@@ -100,8 +100,7 @@ pub fn due(alloc: Global, input: &[u8], width: usize, height: usize, count: u32)
     Some(sum)
 }
 
-/// Makes two surfaces of 2000 columns and 500 rows, fills one, and takes the changes that lead from the other to it and
-/// those that paint it anew.
+/// Makes two surfaces of 2000 columns and 500 rows, fills one, and takes its difference from the other and its repaint.
 pub fn large(alloc: Global, input: &[u8]) -> Option<u64> {
     let mut surface = surface_of(alloc, 2000, 500)?;
     let other = surface_of(alloc, 2000, 500)?;
@@ -114,8 +113,8 @@ pub fn large(alloc: Global, input: &[u8]) -> Option<u64> {
     Some(difference.len() as u64 + repaint.len() as u64)
 }
 
-/// Makes two surfaces of 80 columns and 24 rows that show the input, of which one has another letter at its end, and
-/// takes the changes that lead from the one to the other, so often.
+/// Makes two surfaces of 80 columns and 24 rows that show the input, of which one has one letter more, and takes the
+/// difference of the two, `count` times.
 pub fn patch(alloc: Global, input: &[u8], count: u32) -> Option<u64> {
     let lines = split_inclusive(alloc, input, "\n")?;
     let mut surface = surface_of(alloc, 80, 24)?;

@@ -1,4 +1,4 @@
-//! Actions as rows write them, in words near their `Debug`.
+//! Actions as rows write them, in words close to their `Debug`.
 use crate::fault::Fault;
 use crate::sheet::Sheet;
 use csi_codec::{CSI, Esc};
@@ -6,7 +6,7 @@ use escape_osc::OperatingSystemCommand;
 use escape_stream::{Action, DeviceControlMode};
 use std::alloc::Global;
 
-// Writes a text without the words round the numbers of lines and columns.
+// Writes a text without the `OneBased { value: .. }` around the numbers of lines and columns.
 fn say_unwrapped(text: &str, sheet: &mut Sheet) {
     sheet.word("");
     let mut is_first = true;
@@ -23,7 +23,7 @@ fn say_unwrapped(text: &str, sheet: &mut Sheet) {
     }
 }
 
-/// An action of a control sequence: its `Debug` with lines and columns as numbers; of what has no reading, its text.
+/// An action of a control sequence: its `Debug` with lines and columns as numbers; an `Unspecified` by its text.
 pub fn say_csi(alloc: Global, action: &CSI, sheet: &mut Sheet) {
     if let CSI::Unspecified(left) = action {
         sheet.word(if left.parameters_truncated {
@@ -49,7 +49,7 @@ pub fn say_esc(pair: &Esc, sheet: &mut Sheet) {
     }
 }
 
-/// A command: its `Debug`; of what has no reading, the parts joined by `;`.
+/// A command: its `Debug`; an `Unspecified` by its parts joined by `;`.
 pub fn say_command(command: &OperatingSystemCommand, sheet: &mut Sheet) {
     let OperatingSystemCommand::Unspecified(parts) = command else {
         sheet.debug(command);
@@ -85,7 +85,7 @@ fn say_device(part: &DeviceControlMode, sheet: &mut Sheet) {
     }
 }
 
-/// An action: a print between quotes, a control by its name, others as above.
+/// An action: a print between quotes, a control by its name, every other action as above.
 pub fn say_action(alloc: Global, action: &Action, sheet: &mut Sheet) {
     match action {
         Action::Print(character) => {

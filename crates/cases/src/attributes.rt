@@ -11,7 +11,7 @@ use std::alloc::Global;
 use std::fmt::Debug;
 use std::rc::Rc;
 
-// Sets a mark that is there or not; whether the word names one.
+// Sets an attribute that is on or off; returns whether the word names one.
 fn set_flag(word: &str, attrs: &mut CellAttributes) -> bool {
     match word {
         "italic" => attrs.set_italic(true),
@@ -25,7 +25,7 @@ fn set_flag(word: &str, attrs: &mut CellAttributes) -> bool {
     true
 }
 
-// Sets one of several values; whether the word names one.
+// Sets an attribute that has one of several values; returns whether the word names one.
 fn set_value(word: &str, attrs: &mut CellAttributes) -> bool {
     match word {
         "intensity=Bold" => attrs.set_intensity(Intensity::Bold),
@@ -54,7 +54,7 @@ fn palette(number: &str) -> Result<ColorAttribute, Fault> {
     }
 }
 
-// Sets a colour; whether the word names one.
+// Sets a colour; returns whether the name is that of a colour.
 fn set_color(name: &str, value: &str, attrs: &mut CellAttributes) -> Result<bool, Fault> {
     let color = match name {
         "foreground" | "background" | "underline_color" => palette(value)?,
@@ -68,7 +68,7 @@ fn set_color(name: &str, value: &str, attrs: &mut CellAttributes) -> Result<bool
     Ok(true)
 }
 
-// A link that is given, or was found.
+// A link that a program gives (`link`) or that is found in a text (`found_link`).
 fn link_of(alloc: Global, name: &str, value: &str) -> Result<Hyperlink, Fault> {
     let uri = escapes::read_text(alloc, value)?;
     match name {

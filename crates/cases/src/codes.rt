@@ -17,7 +17,7 @@ fn say_code<T: Debug>(name: &T, number: u16, sheet: &mut Sheet) -> bool {
     true
 }
 
-// A mode or a control; whether the number names one.
+// Writes the mode or the control with this number; returns whether there is one.
 fn say_mode(kind: &str, number: i64, sheet: &mut Sheet) -> bool {
     if kind == "DecPrivateModeCode" {
         if let Some(code) = DecPrivateModeCode::from_i64(number) {
@@ -35,7 +35,7 @@ fn say_mode(kind: &str, number: i64, sheet: &mut Sheet) -> bool {
     false
 }
 
-// A code of tab stops or the cursor's shape; whether the number names one.
+// Writes the code of tab stops or of the cursor's shape with this number; returns whether there is one.
 fn say_stop(kind: &str, number: i64, sheet: &mut Sheet) -> bool {
     if kind == "CursorStyle" {
         if let Some(code) = CursorStyle::from_i64(number) {
@@ -53,7 +53,7 @@ fn say_stop(kind: &str, number: i64, sheet: &mut Sheet) -> bool {
     false
 }
 
-// A code of erasing; whether the number names one.
+// Writes the code of erasing with this number; returns whether there is one.
 fn say_erasing(kind: &str, number: i64, sheet: &mut Sheet) -> bool {
     if kind == "EraseInLine" {
         if let Some(code) = EraseInLine::from_i64(number) {

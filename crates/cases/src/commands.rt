@@ -27,7 +27,7 @@ fn say_body(bytes: &[u8], sheet: &mut Sheet) {
     }
 }
 
-// A command, equal to its copy, and what is written for it.
+// Writes a command, whether it differs from its copy, and its body.
 fn say_written(
     alloc: Global,
     command: &OperatingSystemCommand,
@@ -53,8 +53,8 @@ pub fn osc(row: &Row<'_>, sheet: &mut Sheet) -> Result<(), Fault> {
     say_written(row.alloc(), &command, sheet)
 }
 
-/// `NAME => BITS`: the bits of a selection, which are also the selection of that name; `none` where no selection has
-/// it.
+/// `NAME => BITS`: the bits of the selection with this name, from which the same selection is made; `none` where no
+/// selection has this name.
 pub fn selection(row: &Row<'_>, sheet: &mut Sheet) -> Result<(), Fault> {
     match Selection::from_name(row.column(0)) {
         Some(selection) => {

@@ -1,4 +1,4 @@
-//! Calls that edit the line, with their arguments in the order of the call's and the number last.
+//! Calls that edit the line: their arguments are in the order of the Rust call, the number is last.
 use crate::call::Call;
 use crate::fault::Fault;
 use crate::lines::say_outcome;
@@ -75,7 +75,7 @@ fn edit_by_numbers(line: &mut Line, call: &Call<'_>, sheet: &mut Sheet) -> bool 
     true
 }
 
-// Number and bits.
+// Calls that set the line's number or its bits.
 fn set_bits(line: &mut Line, call: &Call<'_>, sheet: &mut Sheet) -> bool {
     let number = call.last_number(sheet);
     match call.word(0) {
@@ -88,7 +88,7 @@ fn set_bits(line: &mut Line, call: &Call<'_>, sheet: &mut Sheet) -> bool {
     true
 }
 
-// The line of a text goes after the line.
+// Appends the line of a text to the line.
 fn append(line: &mut Line, call: &Call<'_>, sheet: &mut Sheet) -> Result<(), Fault> {
     let text = call.text(1)?;
     let other = Line::try_from_text(call.alloc(), text.as_str(), &ProgramWidth)?;
@@ -96,7 +96,7 @@ fn append(line: &mut Line, call: &Call<'_>, sheet: &mut Sheet) -> Result<(), Fau
     Ok(())
 }
 
-// Writes one of the cells that the line lends, and says how many it lends.
+// Writes one of the cells that the line lends, and writes to the sheet how many cells it lends.
 fn write_lent(line: &mut Line, at: usize, cell: Cell, sheet: &mut Sheet) -> Result<(), Fault> {
     let cells = line.cells_mut()?;
     sheet.show(&cells.len());
@@ -107,7 +107,8 @@ fn write_lent(line: &mut Line, at: usize, cell: Cell, sheet: &mut Sheet) -> Resu
     Ok(())
 }
 
-// Makes one of the cells italic that the line lends for changes of attributes, and says how many it lends.
+// Makes one of the cells italic that the line lends for changes of attributes, and writes to the sheet how many cells
+// it lends.
 fn slant_lent(line: &mut Line, at: usize, sheet: &mut Sheet) -> Result<(), Fault> {
     let cells = line.cells_mut_for_attr_changes_only()?;
     sheet.show(&cells.len());
@@ -117,9 +118,9 @@ fn slant_lent(line: &mut Line, at: usize, sheet: &mut Sheet) -> Result<(), Fault
     Ok(())
 }
 
-/// Makes a call that edits the line, by its name: its arguments in order, the number last. `cells_mut PLACE CELL`
-/// writes a cell that is lent, `cells_mut_for_attr_changes_only PLACE` makes one italic; both say how many are lent.
-/// Returns whether it is one of these calls.
+/// Makes a call that edits the line, by its name: its arguments in order, the number last. `cells_mut INDEX CELL`
+/// writes a cell that is lent, `cells_mut_for_attr_changes_only INDEX` makes one italic; both write how many cells are
+/// lent. Returns whether it is one of these calls.
 pub fn edit(
     line: &mut Line,
     call: &Call<'_>,

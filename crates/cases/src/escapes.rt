@@ -42,7 +42,7 @@ fn push_character(bytes: &mut Vec<u8>, text: &str) -> Result<(), Fault> {
     Ok(())
 }
 
-// What follows a `\`, up to the next one.
+// Appends the bytes of an escape and the literal text after it, where `text` follows a `\`, up to the next `\`.
 fn push_escape(bytes: &mut Vec<u8>, text: &str) -> Result<(), Fault> {
     if let Some(number) = text.strip_prefix("u{") {
         return push_character(bytes, number);
@@ -114,7 +114,7 @@ pub fn read_text(alloc: Global, text: &str) -> Result<String, Fault> {
     }
 }
 
-// A character, by itself where it is a printable one of ASCII and no `\`.
+// A character, as itself where it is printable ASCII other than `\`.
 fn push_shown(text: &mut String, character: char) -> Result<(), Fault> {
     let number = u32::from(character);
     match character {
@@ -126,7 +126,7 @@ fn push_shown(text: &mut String, character: char) -> Result<(), Fault> {
     Ok(())
 }
 
-// A byte, by itself where it is a printable one of ASCII and no `\`.
+// A byte, as itself where it is printable ASCII other than `\`.
 fn push_byte(text: &mut String, byte: u8) -> Result<(), Fault> {
     if byte.is_ascii() {
         return push_shown(text, char::from(byte));

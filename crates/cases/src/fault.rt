@@ -24,16 +24,16 @@ pub enum Fault {
     /// There is no arrow between the arguments and the answer.
     #[error("no ` => `")]
     Arrow,
-    /// A kind takes another number of arguments.
+    /// The kind takes a different number of arguments.
     #[error("another number of arguments is wanted")]
     Columns,
     /// A `\` and what follows it begin no escape.
     #[error("no such escape")]
     Escape,
-    /// A text was wanted, and these bytes are none.
+    /// A text was expected, and these bytes are not UTF-8.
     #[error("not UTF-8")]
     Utf8,
-    /// A number was wanted, or another one.
+    /// A number was expected, or a number in another range.
     #[error("not a number that can stand here")]
     Number,
     /// A word names no call, attribute or type.

@@ -33,8 +33,8 @@ fn say_character(character: char, sheet: &mut Sheet) {
     sheet.add(b"'");
 }
 
-// A character between quotes, a control or data by its number, an escape sequence after ESC, and what others hold in
-// brackets.
+// Writes an event: a character between quotes, a control or data by its number, an escape sequence after ESC, and the
+// contents of every other event in brackets.
 fn say_event(framer: &Framer, event: Event, sheet: &mut Sheet) {
     match event {
         Event::Print(character) => say_character(character, sheet),
@@ -66,7 +66,8 @@ fn say_event(framer: &Framer, event: Event, sheet: &mut Sheet) {
     }
 }
 
-// How often a byte may be read at most: three times it ends something else first.
+// How often a byte is handed to the framer at most: up to three times the framer reads none of it, and closes
+// something that the byte ends.
 const READS: usize = 4;
 
 // What a byte hands out.
@@ -90,7 +91,7 @@ fn say_fed(framer: &mut Framer, byte: u8, sheet: &mut Sheet) -> Result<(), Fault
     Ok(())
 }
 
-// What some bytes hand out, with a word after what each byte does, if there is one.
+// Writes what some bytes hand out, with a word after the events of each byte, if there is one.
 fn say_all(
     framer: &mut Framer,
     bytes: &[u8],
@@ -116,7 +117,7 @@ pub fn framing(row: &Row<'_>, sheet: &mut Sheet) -> Result<(), Fault> {
     Ok(())
 }
 
-/// `BYTES => EVENTS`: what a stream hands out, with a `/` after what each byte does.
+/// `BYTES => EVENTS`: what a stream hands out, with a `/` after the events of each byte.
 pub fn positions(row: &Row<'_>, sheet: &mut Sheet) -> Result<(), Fault> {
     let bytes = row.bytes(0)?;
     say_all(&mut Framer::new(row.alloc()), &bytes, Some("/"), sheet)

@@ -14,7 +14,7 @@ pub enum Keeping {
 }
 
 impl Keeping {
-    // Keeps the line so.
+    // Brings the line into this form.
     fn turn(self, line: &mut Line) -> Result<(), Fault> {
         line.compress_for_scrollback()?;
         if matches!(self, Keeping::Opened) {
@@ -23,7 +23,7 @@ impl Keeping {
         Ok(())
     }
 
-    /// Keeps the line so, and puts a copy of it in its place.
+    /// Brings the line into this form, and replaces it with a copy.
     pub fn keep(self, line: &mut Line) -> Result<(), Fault> {
         if matches!(self, Keeping::AsMade) {
             return Ok(());

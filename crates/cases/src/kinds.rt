@@ -29,7 +29,7 @@ fn count_of(kind: &str) -> usize {
     }
 }
 
-// A kind of values, lines and screens.
+// Runs a case of a kind of values, lines or screens.
 fn answer_value(kind: &str, row: &Row<'_>, sheet: &mut Sheet) -> Result<(), Fault> {
     match kind {
         "link" => commands::link(row, sheet),
@@ -53,7 +53,7 @@ fn answer_value(kind: &str, row: &Row<'_>, sheet: &mut Sheet) -> Result<(), Faul
     }
 }
 
-// A kind of streams and commands.
+// Runs a case of a kind of streams or commands.
 fn answer_stream(kind: &str, row: &Row<'_>, sheet: &mut Sheet) -> Result<(), Fault> {
     match kind {
         "osc" => commands::osc(row, sheet),

@@ -18,7 +18,7 @@ pub struct Page {
     pub pen: CellAttributes,
 }
 
-/// Answers a refusal of memory as a word.
+/// Writes `refused` where a call was refused memory.
 pub fn say_outcome(outcome: Result<(), AllocError>, sheet: &mut Sheet) {
     sheet.word_if(outcome.is_err(), "refused");
 }
@@ -55,8 +55,8 @@ fn page_of(alloc: Global, text: &str) -> Result<Page, Fault> {
     })
 }
 
-// The page after the calls of a row, which have `; ` between them. The line is kept so before each of them and after
-// the last.
+// The page after the calls of a row, which have `; ` between them. The line is brought into the form of `keeping`
+// before each call and after the last.
 fn page_after(row: &Row<'_>, keeping: Keeping, sheet: &mut Sheet) -> Result<Page, Fault> {
     let text = row.text(0)?;
     let mut page = page_of(row.alloc(), text.as_str())?;
@@ -99,7 +99,7 @@ fn say_line(line: &Line, sheet: &mut Sheet) -> Result<(), Fault> {
     Ok(())
 }
 
-// What the calls of a row answer where the line is kept so, and if asked for what the line is after them.
+// Writes what the calls of a row answer where the line is kept in this form, and, if `is_shown`, the line after them.
 fn say_after(
     row: &Row<'_>,
     keeping: Keeping,
@@ -125,7 +125,7 @@ fn is_kept_alike(row: &Row<'_>, is_shown: bool, page: &Page, sheet: &Sheet) -> R
     Ok(true)
 }
 
-// Says a row's answers, which are the same however the line is kept.
+// Writes a row's answers, which must be the same however the line is kept.
 fn say_each_way(row: &Row<'_>, is_shown: bool, sheet: &mut Sheet) -> Result<(), Fault> {
     let page = say_after(row, Keeping::AsMade, is_shown, sheet)?;
     let is_alike = is_kept_alike(row, is_shown, &page, sheet)?;
@@ -134,18 +134,18 @@ fn say_each_way(row: &Row<'_>, is_shown: bool, sheet: &mut Sheet) -> Result<(), 
 }
 
 /// `TEXT | CALLS => TEXT | COLUMNS | NUMBER | SIZE`: the line of a text with number 0 after these calls; the same
-/// where it is made clustered before each of them, and where it is opened to cells again.
+/// where the line is made clustered before each of them, and where it is opened to cells again.
 pub fn edited(row: &Row<'_>, sheet: &mut Sheet) -> Result<(), Fault> {
     say_each_way(row, true, sheet)
 }
 
-/// `TEXT | CALLS => ANSWERS`: what these calls answer of the line of a text; the same where it is made clustered before
-/// each of them, and where it is opened to cells again.
+/// `TEXT | CALLS => ANSWERS`: what these calls return on the line of a text; the same where the line is made clustered
+/// before each of them, and where it is opened to cells again.
 pub fn asked(row: &Row<'_>, sheet: &mut Sheet) -> Result<(), Fault> {
     say_each_way(row, false, sheet)
 }
 
-/// `TEXT | CALLS => ANSWERS`: what these calls answer of the line of a text, which is kept as they leave it.
+/// `TEXT | CALLS => ANSWERS`: what these calls return on the line of a text, which is kept as they leave it.
 pub fn kept(row: &Row<'_>, sheet: &mut Sheet) -> Result<(), Fault> {
     page_after(row, Keeping::AsMade, sheet)?;
     Ok(())

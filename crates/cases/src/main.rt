@@ -1,6 +1,6 @@
 //! Runs tables of cases: calls, their arguments and the answers that they must have.
 //!
-//! - `actions`: actions as rows write them, in words near their `Debug`.
+//! - `actions`: actions as rows write them, in words close to their `Debug`.
 //! - `attributes`: attributes as rows write them: a word for each one that isn't plain, as `italic`,
 //!   `underline=Curly`, `background=1` (a colour of the palette), `link=URI`, `found_link=URI` (one that was
 //!   found in a text).
@@ -10,7 +10,7 @@
 //!   as `Default` or its number in the palette; a row's size and the cursor's shape by their names.
 //! - `codes`: codes by number and by name.
 //! - `commands`: commands of the operating system (OSC), selections and links.
-//! - `edits`: calls that edit the line, with their arguments in the order of the call's and the number last.
+//! - `edits`: calls that edit the line: their arguments are in the order of the Rust call, the number is last.
 //! - `escapes`: bytes as a table writes them, both ways: `\x1b` is a byte, `\u{304b}` a character, `\n` and
 //!   `\r` are LF and CR, `\s` is a space, `\\` is `\`, and `<<128 of 1;>>` is the text `1;` 128 times.
 //! - `fault`: why a row can't be run.
@@ -26,7 +26,7 @@
 //! - `screens`: screens of a terminal that has read some bytes.
 //! - `sequences`: control sequences and ESC pairs.
 //! - `sequences_of_changes`: lists of changes that know where they leave the cursor.
-//! - `sessions`: a terminal answers a viewer, and that one answers another.
+//! - `sessions`: a terminal sends updates and patches to a viewer, and that viewer to a second one.
 //! - `sheet`: what a call answered, as a row writes it: words in columns.
 //! - `steps`: changes that steps of a surface name.
 //! - `stored`: what a line keeps, as rows write it.

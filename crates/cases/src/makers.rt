@@ -78,7 +78,7 @@ fn picked(page: &Page, index: usize) -> Result<Line, Fault> {
     }
 }
 
-// Cuts the line, and keeps what follows.
+// Cuts the line, and keeps the part after the cut.
 fn split_off(page: &mut Page, call: &Call<'_>, sheet: &mut Sheet) -> Result<(), Fault> {
     let after = page
         .line
@@ -89,8 +89,8 @@ fn split_off(page: &mut Page, call: &Call<'_>, sheet: &mut Sheet) -> Result<(), 
 
 /// Makes a call that gives another line or other attributes: the makers of lines by their names; `pen WORDS` for the
 /// attributes of cells and texts that later calls are given; `columns_as_line START END`; `wrap WIDTH NUMBER`, which
-/// says the rows, and `split_off COLUMN NUMBER`, of whose lines `row PLACE` then makes one the line. Returns whether it
-/// is one of these calls.
+/// writes the rows, and `split_off COLUMN NUMBER`: after either, `row INDEX` makes one of its lines the line. Returns
+/// whether it is one of these calls.
 pub fn make(page: &mut Page, call: &Call<'_>, sheet: &mut Sheet) -> Result<bool, Fault> {
     match call.word(0) {
         "pen" => page.pen = pen_of(call)?,

@@ -23,7 +23,7 @@ fn yes_or_no(line: &Line, call: &Call<'_>, sheet: &mut Sheet) -> bool {
     }
 }
 
-/// Says a cell: its first column, its width and its text, which its copy has too.
+/// Writes a cell: its first column, its width and its text, which must also be the text of its copy.
 pub fn say_cell(cell: &CellRef<'_>, call: &Call<'_>, sheet: &mut Sheet) -> Result<(), Fault> {
     sheet.show(&cell.cell_index());
     sheet.show(&cell.width());
@@ -102,7 +102,7 @@ fn say_text(line: &Line, call: &Call<'_>, sheet: &mut Sheet) -> Result<(), Fault
     Ok(())
 }
 
-// The columns of a double click, where each text but one space is a word.
+// The columns of a double click, where each text except one space belongs to a word.
 fn say_clicked(line: &Line, column: usize, sheet: &mut Sheet) {
     let range = line.compute_double_click_range(column, |text| text != " ");
     sheet.debug(&range);
@@ -110,7 +110,7 @@ fn say_clicked(line: &Line, column: usize, sheet: &mut Sheet) {
 
 /// Asks a question by the name of its call, with its arguments in order. `attrs COLUMN` asks for the attributes of the
 /// cell that begins there, `cluster` for the texts of all clusters, `cluster NUMBER` for one with the offsets of its
-/// bytes, and `compute_double_click_range COLUMN` takes every text but one space for a word.
+/// bytes, and `compute_double_click_range COLUMN` takes every text except one space as part of a word.
 pub fn ask(line: &Line, call: &Call<'_>, sheet: &mut Sheet) -> Result<(), Fault> {
     match call.word(0) {
         "as_str" | "columns_as_str" => say_text(line, call, sheet)?,

@@ -7,7 +7,7 @@ use crate::{escapes, kinds};
 use std::alloc::Global;
 use std::io::Write;
 
-// What begins a case whose answer must differ from the one that is written.
+// The prefix of a case whose answer must differ from the one that is written.
 const MUST_DIFFER: &str = "differs:";
 
 /// The position of a line.
@@ -17,7 +17,7 @@ struct SourceLine<'a> {
     line: usize,
 }
 
-// What a case asks for, and what came.
+// The expected and the actual answer of a case.
 #[derive(Drop)]
 struct Outcome {
     expected: Vec<u8>,
@@ -49,7 +49,7 @@ fn outcome_of(alloc: Global, kind: &str, line: &str) -> Result<Outcome, Fault> {
     Ok(Outcome { expected, came })
 }
 
-// Writes what a case asks for and what came.
+// Writes the expected and the actual answer of a case.
 fn write_outcome<W: Write>(
     alloc: Global,
     source_line: SourceLine<'_>,
@@ -72,7 +72,7 @@ fn write_outcome<W: Write>(
     Ok(())
 }
 
-// Runs the case of a line, and writes it where it is not as it is said.
+// Runs the case of a line, and writes it where the answer is not the expected one.
 fn run_case<W: Write>(
     alloc: Global,
     source_line: SourceLine<'_>,
@@ -92,7 +92,7 @@ fn run_case<W: Write>(
     write_outcome(alloc, source_line, kind, &outcome, out)
 }
 
-// Runs a line that holds a case, and says so where it can't be read.
+// Runs a line that holds a case, and reports it where it can't be read.
 fn run_line<W: Write>(
     alloc: Global,
     source_line: SourceLine<'_>,
@@ -119,8 +119,8 @@ fn heading_of(line: &str) -> Option<&str> {
     line.strip_prefix('[')?.strip_suffix(']')
 }
 
-/// Runs the cases of a text: lines `ARGUMENTS => ANSWER` below a heading `[KIND]`. Empty lines and those that begin
-/// with `//` say nothing. Each line that can't be read and each case that differs is written to `out`.
+/// Runs the cases of a text: lines `ARGUMENTS => ANSWER` below a heading `[KIND]`. Empty lines and lines that begin
+/// with `//` are ignored. Each line that can't be read and each case that differs is written to `out`.
 pub fn run<W: Write>(
     alloc: Global,
     file: &str,

@@ -12,7 +12,7 @@ use cell_line::row_writing::{set_blanks, set_plain, set_text};
 use std::ops::Range;
 use text_clusters::split_plain;
 
-// The range of columns that a call's first two arguments say, where the line has it.
+// The range of columns of a call's first two arguments, if the line has these columns.
 fn columns_of(line: &Line, call: &Call<'_>, sheet: &mut Sheet) -> Result<Range<usize>, Fault>
     ensures order { IfOk result (λ columns. columns.start ≤ columns.end) }
     ensures within { IfOk result (λ columns. columns.end ≤ length line.now.columns) }
@@ -26,7 +26,7 @@ fn columns_of(line: &Line, call: &Call<'_>, sheet: &mut Sheet) -> Result<Range<u
 }
 
 /// `set_blanks START END` sets blanks with the pen's attributes; `set_text START END TEXT` sets a text with them,
-/// `set_plain START END TEXT` the printable ASCII characters at its start, and both say the text that is left.
+/// `set_plain START END TEXT` the printable ASCII characters at its start, and both write the rest of the text.
 pub fn set(
     line: &mut Line,
     call: &Call<'_>,

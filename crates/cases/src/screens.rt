@@ -43,7 +43,7 @@ fn feed_chunk(terminal: &mut Plain, row: &Row<'_>, chunk: &str) -> Result<(), Fa
 }
 
 /// `WIDTH HEIGHT | PIECES => ROWS | COLUMN ROW | NUMBER`: what a terminal shows after chunks with ` + ` between them,
-/// of which `<settle>` settles; what is held at the end is not shown.
+/// where `<settle>` calls `settle`; what is held at the end is not shown.
 pub fn settled(row: &Row<'_>, sheet: &mut Sheet) -> Result<(), Fault> {
     let mut terminal = terminal_of(row.alloc(), row.column(0))?;
     for chunk in row.column(1).split(" + ") {

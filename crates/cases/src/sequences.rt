@@ -99,8 +99,8 @@ fn token_of(alloc: Global, word: &str) -> Result<CsiParam, Fault> {
     }
 }
 
-/// `TOKENS | truncated or whole | FINAL => ACTIONS | TEXT`: the same of tokens with spaces between them, each a number,
-/// also below 0, or a byte, with the flag that tokens were dropped or without.
+/// `TOKENS | truncated or whole | FINAL => ACTIONS | TEXT`: as `csi`, for tokens with spaces between them, each a
+/// number, also below 0, or a byte, and with or without the flag that tokens were dropped.
 pub fn csi_tokens(row: &Row<'_>, sheet: &mut Sheet) -> Result<(), Fault> {
     let alloc = row.alloc();
     let written = row.text(0)?;
@@ -123,7 +123,7 @@ pub fn esc(row: &Row<'_>, sheet: &mut Sheet) -> Result<(), Fault> {
     Ok(())
 }
 
-// Writes the sequence at a prefix, its tokens side by side.
+// Writes the control sequence at the start of some bytes, its tokens side by side, and the bytes after it.
 fn say_prefix(alloc: Global, prefix: &CsiFront<'_>, sheet: &mut Sheet) -> Result<(), Fault> {
     let mut printed = String::new(alloc);
     for token in &prefix.params {
@@ -203,7 +203,7 @@ pub fn cracked(row: &Row<'_>, sheet: &mut Sheet) -> Result<(), Fault> {
     }
 }
 
-// A position that was read, from 1 and from 0, or why there is none.
+// A position that was read, counted from 1 and from 0, or why there is none.
 fn say_one_based(read: Result<OneBased, CrackError>, sheet: &mut Sheet) {
     match read {
         Ok(number) => {
@@ -215,8 +215,8 @@ fn say_one_based(read: Result<OneBased, CrackError>, sheet: &mut Sheet) {
     }
 }
 
-/// `TOKEN => PLACE | PLACE | PLACE`: a line or column as a parameter has it, with 1 and with the greatest one for 0,
-/// and as one that may be absent (an empty column).
+/// `TOKEN => POSITION | POSITION | POSITION`: the line or column of a parameter, where 0 is 1, where 0 is the greatest
+/// position, and where the parameter may be absent (an empty column).
 pub fn one_based(row: &Row<'_>, sheet: &mut Sheet) -> Result<(), Fault> {
     if row.column(0).is_empty() {
         say_one_based(OneBased::from_optional_esc_param(None), sheet);

@@ -39,7 +39,7 @@ fn step(sequence: &mut Plain, call: &Call<'_>, sheet: &mut Sheet) -> Result<(), 
     Ok(())
 }
 
-/// `ROWS COLUMNS | STEPS => ANSWERS`: what these steps, with `; ` between them, answer of a new sequence.
+/// `ROWS COLUMNS | STEPS => ANSWERS`: what these steps, with `; ` between them, return on a new sequence.
 pub fn sequence(row: &Row<'_>, sheet: &mut Sheet) -> Result<(), Fault> {
     let (rows, columns) = row.column(0).split_once(' ').ok_or(Fault::Number)?;
     let rows = number_up_to(4096, rows)?;

@@ -1,4 +1,4 @@
-//! Sessions: a terminal answers a viewer, and that one answers another.
+//! Sessions: a terminal sends updates and patches to a viewer, and that viewer to a second one.
 ghost use Rattle.std.specs.Prelude.{◌<◌, ◌≤◌};
 
 use crate::call::Call;
@@ -24,7 +24,7 @@ struct Size {
     ghost height_fits: { height ≤ 4096 },
 }
 
-/// A terminal that is answered, the number that it holds, and the sizes that it has not taken on yet.
+/// A viewer: its terminal, the number of the last answer that it read, and the sizes that it has not taken on yet.
 #[derive(Drop)]
 struct Viewer {
     terminal: Plain,
@@ -33,7 +33,7 @@ struct Viewer {
 }
 
 impl Viewer {
-    // A new one.
+    // A new viewer.
     fn new(alloc: Global, size: &str) -> Result<Viewer, Fault> {
         Ok(Viewer {
             terminal: terminal_of(alloc, size)?,
@@ -51,7 +51,7 @@ impl Viewer {
         Ok(())
     }
 
-    // Is answered by an update or a patch, which it reads byte by byte; whether it shows the same screen then.
+    // Reads an update or a patch of `one` byte by byte; returns whether the viewer then shows the same screen.
     fn read(&mut self, word: &str, one: &mut Plain) -> Result<bool, Fault> {
         let (number, bytes) = match word {
             "update" => one.update(self.number)?,
@@ -64,7 +64,7 @@ impl Viewer {
     }
 }
 
-/// A terminal, a viewer that it answers, and one that this viewer answers; and how often one was answered.
+/// A terminal, its viewer, and the viewer of that viewer; and how many updates and patches they read.
 #[derive(Drop)]
 struct Chain {
     terminal: Plain,
@@ -74,7 +74,7 @@ struct Chain {
 }
 
 impl Chain {
-    // New ones of the width and height that two words give.
+    // A new chain of terminals of the width and height that two words give.
     fn new(alloc: Global, size: &str) -> Result<Chain, Fault> {
         let terminal = terminal_of(alloc, size)?;
         let first = Viewer::new(alloc, size)?;
@@ -87,7 +87,7 @@ impl Chain {
         })
     }
 
-    // The terminal goes on; whether the word names a call.
+    // Makes a call of the terminal; returns whether the word names one.
     fn goes_on(&mut self, call: &Call<'_>, sheet: &mut Sheet) -> Result<bool, Fault> {
         match call.word(0) {
             "settle" => self.terminal.settle()?,
@@ -103,8 +103,8 @@ impl Chain {
         Ok(true)
     }
 
-    // A viewer is answered, the first or the second; whether it shows the same screen then. The second has to take on
-    // the sizes of the first.
+    // The first or the second viewer reads an update or a patch; returns whether it then shows the same screen. The
+    // second viewer later takes on the sizes that the first takes on.
     fn answer(&mut self, call: &Call<'_>) -> Result<bool, Fault> {
         match call.word(1) {
             "1" => {
@@ -122,7 +122,7 @@ impl Chain {
         }
     }
 
-    // A call; says after which answer a viewer shows another screen.
+    // Makes a call; writes after which answer a viewer shows another screen.
     fn call(&mut self, call: &Call<'_>, sheet: &mut Sheet) -> Result<(), Fault> {
         if self.goes_on(call, sheet)? {
             return Ok(());
@@ -156,7 +156,8 @@ fn inner(step: &str) -> Option<&str> {
     step.strip_prefix('<')?.strip_suffix('>')
 }
 
-/// `WIDTH HEIGHT | STEPS => COUNT`: how often a viewer was answered; says after which answers it shows another screen.
+/// `WIDTH HEIGHT | STEPS => COUNT`: how many updates and patches the viewers read, and after which of them a viewer
+/// shows another screen.
 pub fn session(row: &Row<'_>, sheet: &mut Sheet) -> Result<(), Fault> {
     let mut chain = Chain::new(row.alloc(), row.column(0))?;
     for step in row.column(1).split(" + ") {

@@ -3,8 +3,8 @@ use crate::attributes;
 use crate::sheet::Sheet;
 use cell_line::{Line, StoredLine};
 
-/// Says `cells`, or `clustered` with the text in quotes, the sizes of cells as `BYTES:COLUMNS`, the count and the
-/// attributes of each run, and `blanks` with the count and the attributes of those after, where there are any.
+/// Writes `cells`, or `clustered` with the text in quotes, the sizes of cells as `BYTES:COLUMNS`, the count and the
+/// attributes of each run, and `blanks` with the count and the attributes of the blanks after the text, if any.
 pub fn say(line: &Line, sheet: &mut Sheet) {
     let StoredLine::Clustered(row) = line.stored() else {
         sheet.word("cells");

@@ -30,7 +30,7 @@ fn collected_on(
     Ok(())
 }
 
-// Reads the bytes by `parse`, and joins the actions that it calls the callback at with those that were read before.
+// Reads the bytes by `parse`, and joins the actions that the callback gets with those that were read before.
 fn called_on(
     parser: &mut Parser,
     bytes: &[u8],
@@ -123,7 +123,7 @@ fn is_read_at(alloc: Global, bytes: &[u8], count: usize, whole: &[Action]) -> Re
     Ok(collected && called && lent)
 }
 
-// Says where the bytes don't have these actions.
+// Writes at which cuts the bytes don't have these actions.
 fn say_torn(alloc: Global, bytes: &[u8], whole: &[Action], sheet: &mut Sheet) -> Result<(), Fault> {
     for count in 0..bytes.len().min(MOST_CUTS) {
         if !is_read_at(alloc, bytes, count, whole)? {
@@ -264,7 +264,8 @@ fn say_settled(alloc: Global, found: Option<(Vec<Action>, usize)>, sheet: &mut S
     sheet.word("+");
 }
 
-/// The case of `parse_first_as_vec`, which answers all actions that the first deciding byte decides.
+/// `PIECES => ANSWERS`: as `first`, for `parse_first_as_vec`, which returns the actions of the shortest prefix that
+/// decides one and leaves nothing unfinished.
 pub fn first_settled(row: &Row<'_>, sheet: &mut Sheet) -> Result<(), Fault> {
     let mut parser = Parser::new(row.alloc());
     for piece in row.column(0).split(" + ") {

@@ -184,7 +184,7 @@ fn ask(stage: &Stage, call: &Call<'_>, sheet: &mut Sheet) -> Result<bool, Fault>
     Ok(true)
 }
 
-/// `WIDTH HEIGHT | STEPS => ANSWERS`: what these steps, with `; ` between them, answer of a new surface.
+/// `WIDTH HEIGHT | STEPS => ANSWERS`: what these steps, with `; ` between them, return on a new surface.
 pub fn surface(row: &Row<'_>, sheet: &mut Sheet) -> Result<(), Fault> {
     let (width, height) = row.column(0).split_once(' ').ok_or(Fault::Number)?;
     let mut stage = Stage {

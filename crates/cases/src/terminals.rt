@@ -152,7 +152,7 @@ impl Seen {
 // The bytes are cut in two at their first positions only, so that many take no longer.
 const MOST_CUTS: usize = 400;
 
-/// Says in which chunks the bytes lead to something else; whether there are none.
+/// Writes for which chunks the bytes lead to another screen, number, reply or update; returns whether there are none.
 pub fn say_torn(
     alloc: Global,
     size: &str,
@@ -173,8 +173,8 @@ pub fn say_torn(
     Ok(all_same && is_same)
 }
 
-// Says in which chunks the bytes lead to something else on a terminal of this size, or that its viewer does; whether
-// neither is so.
+// Writes for which chunks the bytes lead to another result on a terminal of this size, and whether its viewer shows
+// another screen; returns whether neither is so.
 fn say_independent(
     alloc: Global,
     size: &str,

@@ -54,7 +54,7 @@ impl Pair {
         Ok(Pair { terminal, viewer })
     }
 
-    /// Both become `width` columns wide and `height` rows high.
+    /// Resizes both to `width` columns and `height` rows.
     pub fn resize(&mut self, width: usize, height: usize) -> Result<(), Fault>
         requires columns { 0 < width }
         requires width { width ≤ 4096 }
@@ -73,7 +73,7 @@ impl Pair {
         Ok(())
     }
 
-    // The viewer reads bytes one by one; says so where it then shows another screen.
+    // The viewer reads bytes one by one; it is written to the sheet where the viewer then shows another screen.
     fn say_read(&mut self, bytes: &[u8], sheet: &mut Sheet) -> Result<(), Fault> {
         feed_each(&mut self.viewer, bytes)?;
         let is_same = shows_same(&self.terminal, &self.viewer)?;
@@ -81,8 +81,8 @@ impl Pair {
         Ok(())
     }
 
-    /// Writes the number and the bytes of the patch from what the viewer shows, which reads them one by one; says so
-    /// where it then shows another screen.
+    /// Writes the number and the bytes of the patch from what the viewer shows. The viewer reads the bytes one by one;
+    /// it is written to the sheet where the viewer then shows another screen.
     pub fn say_patch(&mut self, sheet: &mut Sheet) -> Result<(), Fault> {
         let (number, bytes) = patched(&mut self.terminal, &self.viewer)?;
         sheet.show(&number);
@@ -90,7 +90,7 @@ impl Pair {
         self.say_read(&bytes, sheet)
     }
 
-    // Writes the number and the bytes of the update for a number; answers the bytes.
+    // Writes the number and the bytes of the update for a number; returns the bytes.
     fn take_update(&mut self, number: usize, sheet: &mut Sheet) -> Result<Vec<u8>, Fault> {
         let (number, bytes) = self.terminal.update(number)?;
         sheet.show(&number);
@@ -104,15 +104,15 @@ impl Pair {
         Ok(())
     }
 
-    /// Writes the number and the bytes of an update, which the viewer reads one by one; says so where it then shows
-    /// another screen.
+    /// Writes the number and the bytes of an update, which the viewer reads one by one; it is written to the sheet
+    /// where the viewer then shows another screen.
     pub fn say_read_update(&mut self, number: usize, sheet: &mut Sheet) -> Result<(), Fault> {
         let bytes = self.take_update(number, sheet)?;
         self.say_read(&bytes, sheet)
     }
 }
 
-// Gives its bytes, at most `most` at a time.
+// A reader of these bytes, at most `most` at a time.
 #[derive(Drop)]
 struct Chunks<'a> {
     bytes: &'a [u8],
@@ -126,7 +126,7 @@ impl Read for Chunks<'_> {
     }
 }
 
-// Takes at most `most` bytes at a time.
+// A writer that takes at most `most` bytes at a time.
 #[derive(Drop)]
 struct Sink {
     text: Vec<u8>,

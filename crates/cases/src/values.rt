@@ -62,7 +62,7 @@ fn printable_of(text: &str) -> u8
     }
 }
 
-// The cell of a printable character: a new one, or an italic one of か in whose position it is set.
+// The cell of a printable character: a new cell, or an italic cell of か that is set to the character.
 fn ascii_cell(row: &Row<'_>, text: &str, attrs: CellAttributes) -> Result<Cell, AllocError> {
     let character = printable_of(text);
     if row.column(0) == "new_ascii" {

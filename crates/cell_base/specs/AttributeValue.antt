@@ -6,7 +6,7 @@ use Rattle.cell_base.specs.declared.attributes.Blink.{Blink as Blinking}
 use Rattle.cell_base.specs.declared.color.ColorAttribute.{ColorAttribute}
 use Rattle.cell_base.specs.Link.{Link}
 
--- what the variant of that name holds
+-- each variant holds the argument of the variant of `AttributeChange` that has its name
 pub data AttributeValue : Type 0 where
   Intensity : Boldness → AttributeValue
   Underline : Underlining → AttributeValue
@@ -19,7 +19,7 @@ pub data AttributeValue : Type 0 where
   Background : ColorAttribute → AttributeValue
   Hyperlink : Option Link → AttributeValue
 
--- a link is set, not taken away
+-- the change sets a link; it doesn't remove one
 abbrev pub holds_link : AttributeValue → Bool
 holds_link (Hyperlink (Some link)) = true
 holds_link value = false

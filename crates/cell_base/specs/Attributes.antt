@@ -31,7 +31,7 @@ pub record Attributes : Type 0 where
   pub underline_color : ColorAttribute
   pub hyperlink : Option Link
 
--- what a cell has where nothing was set
+-- the attributes of a cell for which none was set
 abbrev pub plain : Attributes
 plain =
     record {
@@ -52,7 +52,7 @@ plain =
       hyperlink = None;
     }
 
--- plain attributes on a background
+-- plain attributes with a background colour
 abbrev pub blank_of : ColorAttribute → Attributes
 blank_of color = record plain { background = color }
 

@@ -1,4 +1,4 @@
--- Colours: their numbers and how one form is read as another.
+-- Colours: their palette indices, and conversions between their forms.
 use Rattle.std.specs.Prelude.{ℕ}
 use Rattle.cell_base.specs.declared.color.AnsiColor.{AnsiColor}
 use Rattle.cell_base.specs.declared.color.AnsiColor.TheVariants.{Black, Maroon, Green, Olive, Navy, Purple, Teal}
@@ -36,7 +36,7 @@ number_of White = 15
 abbrev pub channels : RgbColor → ℕ × ℕ × ℕ
 channels c = (c.red, c.green, c.blue)
 
--- the colour, seen through nothing
+-- the opaque colour: its alpha is 255
 abbrev pub opaque : RgbColor → SrgbaTuple
 opaque c = record { 0 = c.red; 1 = c.green; 2 = c.blue; 3 = 255 }
 
@@ -44,7 +44,7 @@ opaque c = record { 0 = c.red; 1 = c.green; 2 = c.blue; 3 = 255 }
 abbrev pub without_alpha : SrgbaTuple → RgbColor
 without_alpha c = record { red = c.0; green = c.1; blue = c.2 }
 
--- a cell's colour for a setting: a true colour falls back to the default
+-- the cell colour of a `ColorSpec`: a true colour falls back to the default
 abbrev pub attribute_of : ColorSpec → ColorAttribute
 attribute_of Default = default_attribute
 attribute_of (PaletteIndex n) = palette_attribute n

@@ -26,7 +26,7 @@ x11_text c =
 
 -- ---- reading
 
--- the number that hex digits spell, and none where a byte is no hex digit
+-- the value of hex digits; `hex_reading` is `None` where a byte is not a hex digit
 abbrev pub hex_value : List ℕ → ℕ
 hex_value digits = fold (λ n d. 16 * n + digit_value d) 0 digits
 

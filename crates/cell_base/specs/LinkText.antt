@@ -39,8 +39,8 @@ is_param text = list_any (λ b. b == 61) text
 abbrev pub param_of : List ℕ → Param
 param_of text = (before_first (λ b. b == 61) text, after_first (λ b. b == 61) text)
 
--- a parameter put in its place in the order of the keys' bytes; where the key is there, its value takes the other's
--- position
+-- the parameters with one inserted in the order of the keys' bytes; where its key is present, its value replaces the
+-- present one
 abbrev pub put_param : List Param → Param → List Param
 put_param ps p = insert_entry (slice_cmp nat_cmp) ps p.0 p.1
 

@@ -46,19 +46,19 @@ align_byte SubScript = 2
 abbrev pub flag_byte : Bool → ℕ
 flag_byte flag = if flag then 1 else 0
 
--- the bytes of a colour, and more after them
+-- the bytes of a colour, followed by `rest`
 abbrev pub color_bytes : ColorAttribute → List ℕ → List ℕ
 color_bytes color rest =
     let channels = channels_of color in
     kind_byte (kind_of color) ∷ channels.0 ∷ channels.1 ∷ channels.2 ∷ channels.3 ∷ index_of color ∷ rest
 
--- the bytes of the flags, and more after them
+-- the bytes of the flags, followed by `rest`
 abbrev pub flag_bytes : Attributes → List ℕ → List ℕ
 flag_bytes a rest =
     flag_byte a.italic ∷ flag_byte a.reverse ∷ flag_byte a.strikethrough ∷ flag_byte a.invisible ∷ flag_byte a.wrapped
     ∷ flag_byte a.overline ∷ rest
 
--- the bytes that fill them up to 32
+-- the bytes that pad the attributes to 32 bytes
 abbrev pub padding : List ℕ
 padding = 0 ∷ 0 ∷ 0 ∷ []
 

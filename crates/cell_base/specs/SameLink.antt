@@ -6,7 +6,7 @@ use Rattle.cell_base.specs.Link.{Link}
 use Rattle.cell_base.specs.SameValue.{is_same, is_same_decides, is_same_equivalence}
 use Rattle.cell_base.specs.contracts.hyperlink.Hyperlink.{the_row}
 
--- their texts are the same
+-- parameters and URI are the same, and both links were found in a text or neither
 pub same_link : Link → Link → Bool
 same_link = is_same the_row.coded
 

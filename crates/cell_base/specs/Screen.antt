@@ -44,14 +44,14 @@ new_screen width height =
 abbrev pub scrolled : Screen → Screen
 scrolled screen = record screen { rows = drop 1 screen.rows ++ plain_row screen.width ∷ [] }
 
--- the next row, by scrolling at the last; the column is kept
+-- moves the cursor to the next row, and scrolls in the last one; the column is kept
 abbrev pub line_feed : Screen → Screen
 line_feed screen = if screen.row + 1 == height screen then scrolled screen else record screen { row = screen.row + 1 }
 
 abbrev pub carriage_return : Screen → Screen
 carriage_return screen = record screen { column = 0 }
 
--- the columns from the cursor on become these, and the cursor follows them
+-- `columns` replace those from the cursor on, and the cursor moves to the column after them
 abbrev pub write_columns : Row → Screen → Screen
 write_columns columns screen = record screen {
   rows =

@@ -1,4 +1,4 @@
--- The plain values as yes or no.
+-- Underlines, blinking and cursor shapes as booleans.
 use Rattle.std.specs.Prelude.{Bool, true, false}
 use Rattle.cell_base.specs.declared.attributes.Underline.{Underline}
 use Rattle.cell_base.specs.declared.attributes.Underline.TheVariants.{None}

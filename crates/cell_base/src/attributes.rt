@@ -2,8 +2,8 @@
 ghost use Rattle.std.specs.Prelude.{◌≡◌};
 ghost use Rattle.cell_base.specs.Style.{is_underlined, is_blinking_text, is_blinking_shape};
 
-/// What a cell's text is, in the order of `Ord`: output of a program, input of the user, or the
-/// prompt.
+/// The semantic type of a cell's text, in the order of `Ord`: output of a program, input of the
+/// user, or the prompt.
 #[derive(Debug, Clone, Copy, PartialEq, Eq, PartialOrd, Ord, Default)]
 pub enum SemanticType {
     #[default]
@@ -74,7 +74,7 @@ pub enum LineAttribute {
     SingleWidthLine,
 }
 
-/// A column or a row, counted from 0: by the way from the current one, from the start, or from
+/// A column or a row, counted from 0: as an offset from the current one, from the start, or from
 /// the end.
 #[derive(Debug, Clone, Copy, PartialEq, Eq)]
 pub enum Position {
@@ -105,7 +105,7 @@ pub enum CursorShape {
 }
 
 impl CursorShape {
-    /// Whether a cursor of this shape blinks by its own name.
+    /// Whether the shape is one of the three that blink; `Default` isn't.
     pub fn is_blinking(self) -> bool
         ensures { result ≡ is_blinking_shape self }
     {

@@ -164,7 +164,7 @@ impl Cell {
         self.text.as_str()
     }
 
-    /// The columns that the cell takes: 1 or 2. `lawful` is what each cell keeps to.
+    /// The columns that the cell takes: 1 or 2. `lawful` is the invariant of every cell.
     pub fn width(&self) -> usize
         ensures value { result ≡ self.now.width }
         ensures some { 1 ≤ result }
@@ -199,7 +199,7 @@ impl Cell {
     }
 
     /// A copy that shares the link. It is refused only where there is one, or where the text has more than 15 bytes.
-    /// `lawful` is what each cell keeps to.
+    /// `lawful` is the invariant of every cell.
     pub fn try_clone(&self) -> Result<Cell, AllocError>
         ensures copy { IfOk result (λ copy. copy ≡ self.now) }
         ensures succeeds { LiesInline self.now.text → self.now.attributes.hyperlink ≡ None → IsOk result }

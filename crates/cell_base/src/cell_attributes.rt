@@ -209,14 +209,14 @@ impl CellAttributes {
         self
     }
 
-    /// What the text is.
+    /// The semantic type of the text: output, input or prompt.
     pub fn semantic_type(&self) -> SemanticType
         ensures { result ≡ self.now.semantic_type }
     {
         self.rendition.style.semantic_type
     }
 
-    /// Sets what the text is, and returns `self`.
+    /// Sets the semantic type of the text, and returns `self`.
     pub fn set_semantic_type(&mut self, value: SemanticType) -> &mut CellAttributes
         ensures chains { result.ghost_name ≡ self.entry.ghost_name }
         ensures set { result.now ≡ record self.old { semantic_type = value } }
@@ -324,8 +324,8 @@ impl CellAttributes {
         *self = CellAttributes::blank();
     }
 
-    /// A copy without semantic type, underline, overline, strikethrough and link: what a cell keeps
-    /// where an erased position is filled.
+    /// A copy without semantic type, underline, overline, strikethrough and link: the attributes of
+    /// a blank that fills an erased position.
     pub fn clone_sgr_only(&self) -> CellAttributes
         ensures { result ≡ sgr_only self.now }
     {
@@ -408,8 +408,8 @@ impl CellAttributes {
         }
     }
 
-    /// Becomes a copy of other attributes that shares their link; a refused one stays as it was. It is refused only
-    /// where they have a link.
+    /// Becomes a copy of `other` that shares its link. It is refused only where `other` has a link, and `self` stays as
+    /// it was then.
     #[inline(always)]
     pub fn copy_from(&mut self, other: &CellAttributes) -> Result<(), AllocError>
         ensures done { OnOk result (self.new ≡ other.now) }

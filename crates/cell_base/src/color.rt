@@ -95,7 +95,7 @@ impl RgbColor {
         format!(in alloc; "#{red:02x}{green:02x}{blue:02x}")
     }
 
-    /// `rgb:` and four hex digits for each channel, which are its two twice, joined by `/`.
+    /// `rgb:` and four hex digits for each channel, which are its two digits twice, joined by `/`.
     pub fn to_x11_16bit_rgb_string(self, alloc: Global) -> Result<String, AllocError>
         ensures { IfOk result (λ s. string_bytes s ≡ x11_text self) }
     {
@@ -124,7 +124,7 @@ impl From<SrgbaTuple> for RgbColor {
 /// An index into the palette of 256 colours.
 pub type PaletteIndex = u8;
 
-/// A colour as one setting names it.
+/// A colour without a fallback: the default, a palette index, or a true colour.
 #[derive(Debug, Clone, Copy, PartialEq, Eq, Default)]
 pub enum ColorSpec {
     #[default]
@@ -157,7 +157,7 @@ impl From<SrgbaTuple> for ColorSpec {
     }
 }
 
-/// A colour of a cell: a true colour may name a palette index as its fallback where true colour is lacking.
+/// A colour of a cell. A true colour falls back to the default or to a palette index on a terminal without true colour.
 #[derive(Debug, Clone, Copy, PartialEq, Eq, Hash, Default)]
 pub enum ColorAttribute {
     #[default]

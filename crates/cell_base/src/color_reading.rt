@@ -20,7 +20,7 @@ fn hex_digit(byte: u8) -> u8
     }
 }
 
-// The number that hex digits spell.
+// The value of hex digits; `None` where a byte is not a hex digit.
 fn hex_value(digits: &[u8]) -> Option<u32>
     requires { length digits.now ≤ 4 }
     ensures value { result ≡ hex_reading digits.now }

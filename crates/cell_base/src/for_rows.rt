@@ -1,4 +1,4 @@
-//! What rows need of cells. For the crates that keep rows, not for users.
+//! Functions of cells that rows need. For the crates that keep rows, not for users.
 ghost use Rattle.std.specs.Prelude.{◌≡◌, ◌≤◌, None, OnOk, IsOk, OnErr};
 ghost use Rattle.cell_base.specs.Attributes.{Attributes};
 ghost use Rattle.cell_base.specs.CellContent.{cell_of, blank_cell};

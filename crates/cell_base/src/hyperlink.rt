@@ -20,8 +20,8 @@ use std::collections::BTreeMap;
 use std::fmt;
 use std::marker::Model;
 
-/// A link: its URI, its parameters in the order of their keys, and whether it was found rather
-/// than given.
+/// A link: its URI, its parameters in the order of their keys, and whether it was found in a text
+/// rather than given by a program.
 #[derive(Debug, Drop)]
 pub struct Hyperlink {
     params: BTreeMap<String, String>,

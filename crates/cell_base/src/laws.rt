@@ -7,7 +7,7 @@ ghost use Rattle.cell_base.specs.LinkText.{link_reading, fields, text_of_link};
 
 use crate::cell::Cell;
 
-/// A cell takes one or two columns, and its text is none that a cell replaces by a space.
+/// A cell takes one or two columns, and its text is not one of those that a cell replaces by a space.
 pub fn cells_are_lawful(cell: &Cell)
     ensures { IsCell cell.now }
 {

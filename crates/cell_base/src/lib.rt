@@ -1,5 +1,4 @@
-//! The values that every layer of the stack speaks of: colours, attributes, links, widths and
-//! cells.
+//! The values that every layer of the stack uses: colours, attributes, links, widths and cells.
 //!
 //! - `attribute_change`: a change of one attribute.
 //! - `attributes`: enums of attributes, cursors, lines and positions, and the numbers of changes.
@@ -9,7 +8,7 @@
 //! - `color`: colours: the sixteen named ones, the palette, and true colours.
 //! - `color_reading`: reading a colour from a text.
 //! - `columns`: the columns that a text takes, and white space.
-//! - `for_rows`: what rows need of cells.
+//! - `for_rows`: functions of cells that rows need.
 //! - `hyperlink`: links: a URI with parameters, as OSC 8 carries them.
 //! - `inline_text`: texts that lie in a cell itself.
 //! - `laws`: laws of the definitions: each is the contract of a function that does nothing.

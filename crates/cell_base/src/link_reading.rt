@@ -148,6 +148,6 @@ pub(crate) fn join_parts(alloc: Global, parts: &[&[u8]]) -> Result<String, Alloc
         }
         joined.extend_from_slice(part)?;
     }
-    // SAFETY: the joined parts are UTF-8, as the caller says.
+    // SAFETY: the joined parts are UTF-8, as `requires` states.
     Ok(unsafe { String::from_utf8_unchecked(joined) })
 }

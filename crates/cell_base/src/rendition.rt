@@ -19,7 +19,7 @@ pub(crate) struct Flags {
     pub(crate) overline: bool,
 }
 
-// The attributes that say how much.
+// Intensity, underline and blink.
 #[derive(Debug, Clone, Copy)]
 pub(crate) struct Marks {
     pub(crate) intensity: Intensity,
@@ -36,7 +36,7 @@ pub(crate) struct Style {
     pub(crate) vertical_align: VerticalAlign,
 }
 
-// The attributes less the link, which are copied and compared as one value: of 32 bytes, since two moves copy these.
+// The attributes less the link. They are copied and compared as one value of 32 bytes, which two moves copy.
 #[derive(Debug, Clone, Copy)]
 pub(crate) struct Rendition {
     pub(crate) style: Style,

@@ -11,8 +11,8 @@ ghost use Rattle.text_clusters.specs.Plain.{is_printable};
 
 use unicode_width::{UnicodeWidthChar, UnicodeWidthStr};
 
-/// How many columns of a terminal a text takes. Two values of widths are the same where they
-/// answer alike for every text.
+/// How many columns of a terminal a text takes. Two values are equivalent where they give every
+/// text the same width.
 pub trait Widths {
     /// The columns of a text.
     ghost width_of: { Self → List ℕ → ℕ };

@@ -10,7 +10,7 @@ use Rattle.cell_base.specs.Row.{closed_start, set_columns}
 use Rattle.cell_base.specs.UpToLast.{up_to_last}
 use Rattle.cell_edits.specs.CellList.{cell_columns}
 
--- the first columns
+-- the first `width` columns
 abbrev pub cut : ℕ → Row → Row
 cut width row = closed_end (take width row)
 
@@ -22,7 +22,7 @@ cut_prefix at row = closed_start (drop at row)
 abbrev pub padded : ℕ → Row → Row
 padded width row = row ++ plain_row (width - length row)
 
--- cut, or padded
+-- the row, cut or padded to `width` columns
 abbrev pub resized : ℕ → Row → Row
 resized width row = if nat_lt width (length row) then cut width row else padded width row
 
@@ -30,11 +30,11 @@ resized width row = if nat_lt width (length row) then cut width row else padded 
 abbrev pub with_cell : Row → ℕ → CellContent → Row
 with_cell row at cell = let columns = cell_columns cell in set_columns (padded (at + length columns) row) at columns
 
--- one column less
+-- the row without the column at a position
 abbrev pub removed : ℕ → Row → Row
 removed at row = cut at row ++ cut_prefix (at + 1) row
 
--- inserts columns between the columns before a position and the columns after it
+-- inserts columns between the columns before a position and the columns from it on
 abbrev pub inserted : ℕ → Row → Row → Row
 inserted at columns row = cut at row ++ columns ++ cut_prefix at row
 
@@ -61,7 +61,7 @@ is_plain_blank (Narrow text attributes) = bytes_eq text space && same_attributes
 is_plain_blank (LeftHalf text attributes) = false
 is_plain_blank (RightHalf attributes) = false
 
--- the plain blanks at the end go
+-- the row less the plain blanks at its end
 abbrev pub pruned_row : Row → Row
 pruned_row row = up_to_last (λ column. not (is_plain_blank column)) row
 

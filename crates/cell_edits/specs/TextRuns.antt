@@ -8,7 +8,7 @@ use Rattle.cell_base.specs.Row.{Row}
 use Rattle.cell_edits.specs.CellList.{cell_columns, text_cells}
 use Rattle.cell_edits.specs.RowEdits.{overlaid}
 
--- the cells at the start that fit side by side in `room` columns
+-- the first cells, as many as fit side by side in `room` columns
 abbrev pub fitting : ℕ → List CellContent → List CellContent
 fitting room [] = []
 fitting room (cell ∷ cells) =
@@ -22,11 +22,11 @@ fitting_cells width_of room text attributes = fitting room (text_cells width_of 
 abbrev pub text_after : ℕ → List ℕ → List ℕ
 text_after count text = concat (drop count (graphemes true text))
 
--- the row with the cells of a text set from a column on, as far as they fit before another
+-- the row with the cells of a text set from column `at` on, as far as they fit before column `end`
 abbrev pub text_on : (List ℕ → ℕ) → ℕ → Attributes → Row → ℕ → List ℕ → Row
 text_on width_of end attributes row at text = overlaid row at (fitting_cells width_of (end - at) text attributes)
 
--- the rest of the text then
+-- the rest of the text, whose cells don't fit
 abbrev pub text_left : (List ℕ → ℕ) → ℕ → Attributes → ℕ → List ℕ → List ℕ
 text_left width_of end attributes at text = text_after (length (fitting_cells width_of (end - at) text attributes)) text
 

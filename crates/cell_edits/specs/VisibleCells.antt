@@ -17,7 +17,7 @@ abbrev pub visible_at : ℕ → List ℕ → ℕ → Attributes → VisibleCell
 visible_at column text width attributes =
     record { column = column; cell = record { text = text; width = width; attributes = attributes } }
 
--- the cells of a row whose first column has a number, in order
+-- the visible cells of a row whose first column has the number `at`, in order
 abbrev pub visible_from : ℕ → Row → List VisibleCell
 visible_from at [] = []
 visible_from at (Narrow text attributes ∷ row) = visible_at at text 1 attributes ∷ visible_from (at + 1) row
@@ -76,18 +76,18 @@ last_column cells = fold (λ _ v. v.column) 0 cells
 abbrev pub texts_joined : List VisibleCell → List ℕ
 texts_joined cells = flat_map (λ v. v.cell.text) cells
 
--- whether the line goes on after the last cell; not where there is none
+-- whether the line goes on after the last cell; `false` where there is none
 abbrev pub ends_wrapped : List VisibleCell → Bool
 ends_wrapped cells = fold (λ _ v. v.cell.attributes.wrapped) false cells
 
--- the cell is set to be one after which the line goes on, or not
+-- sets whether the line goes on after the cell
 abbrev pub mark_cell : Bool → CellContent → CellContent
 mark_cell wrapped cell = record cell { attributes = record cell.attributes { wrapped = wrapped } }
 
 abbrev pub mark_wrapped : Bool → VisibleCell → VisibleCell
 mark_wrapped wrapped v = record v { cell = mark_cell wrapped v.cell }
 
--- the last cell is set to be one after which the line goes on, or not
+-- sets whether the line goes on after the last cell
 abbrev pub with_end_wrapped : Bool → List VisibleCell → List VisibleCell
 with_end_wrapped wrapped [] = []
 with_end_wrapped wrapped (v ∷ []) = mark_wrapped wrapped v ∷ []

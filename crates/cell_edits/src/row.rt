@@ -119,7 +119,7 @@ pub(crate) fn open(cells: &mut Vec<Cell>, start: usize, end: usize) -> Result<()
     Ok(())
 }
 
-// The cell takes its columns from `at` on.
+// Sets the columns from `at` on to those of the cell.
 pub(crate) fn write_cell(cells: &mut Vec<Cell>, at: usize, cell: Cell) -> Result<(), AllocError>
     requires { at + length (cell_columns cell) ≤ vec_len cells.old }
     ensures len { vec_len cells.new ≡ vec_len cells.old }
@@ -160,7 +160,7 @@ pub fn remove_column(cells: &mut Vec<Cell>, at: usize) -> Result<(), AllocError>
     Ok(())
 }
 
-// The columns from `width` on go.
+// Drops the columns from `width` on.
 fn cut_to(cells: &mut Vec<Cell>, width: usize) -> Result<(), AllocError>
     requires { width ≤ vec_len cells.old }
     ensures { OnOk result (row_of_cells cells.new.items ≡ cut width (row_of_cells cells.old.items)) }
@@ -170,7 +170,7 @@ fn cut_to(cells: &mut Vec<Cell>, width: usize) -> Result<(), AllocError>
     Ok(())
 }
 
-/// Blanks are pushed.
+/// Appends `count` plain blanks.
 pub fn push_blanks(cells: &mut Vec<Cell>, count: usize) -> Result<(), AllocError>
     ensures { OnOk result (cells.new.items ≡ cells.old.items ++ replicate count (blank_cell plain)) }
 {
@@ -181,7 +181,7 @@ pub fn push_blanks(cells: &mut Vec<Cell>, count: usize) -> Result<(), AllocError
     Ok(())
 }
 
-// Plain blanks are added up to `width` columns.
+// Appends plain blanks up to `width` columns.
 pub(crate) fn pad(cells: &mut Vec<Cell>, width: usize) -> Result<(), AllocError>
     ensures row { OnOk result (row_of_cells cells.new.items ≡ padded width (row_of_cells cells.old.items)) }
     ensures len { OnOk result (width ≤ vec_len cells.new) }
@@ -194,7 +194,7 @@ pub(crate) fn pad(cells: &mut Vec<Cell>, width: usize) -> Result<(), AllocError>
     Ok(())
 }
 
-/// The row is cut, or padded.
+/// Cuts the row to `width` columns, or pads it to them with plain blanks.
 pub fn resize(cells: &mut Vec<Cell>, width: usize) -> Result<(), AllocError>
     ensures { OnOk result (row_of_cells cells.new.items ≡ resized width (row_of_cells cells.old.items)) }
 {
@@ -214,7 +214,7 @@ pub fn set_cell(cells: &mut Vec<Cell>, at: usize, cell: Cell) -> Result<(), Allo
     write_cell(cells, at, cell)
 }
 
-/// Copies of the cell are pushed.
+/// Appends `count` copies of the cell.
 pub fn push_copies(cells: &mut Vec<Cell>, count: usize, cell: &Cell) -> Result<(), AllocError>
     ensures { OnOk result (cells.new.items ≡ cells.old.items ++ replicate count cell.now) }
 {
@@ -225,7 +225,7 @@ pub fn push_copies(cells: &mut Vec<Cell>, count: usize, cell: &Cell) -> Result<(
     Ok(())
 }
 
-// Blanks with attributes are pushed.
+// Appends `count` blanks with attributes.
 pub(crate) fn push_blanks_with(
     cells: &mut Vec<Cell>,
     count: usize,
@@ -248,7 +248,7 @@ pub fn split_off(cells: &mut Vec<Cell>, at: usize) -> Result<Vec<Cell>, AllocErr
     cells.split_off(at)
 }
 
-/// The other row follows this one.
+/// Appends the other row to this one.
 pub fn append(cells: &mut Vec<Cell>, mut other: Vec<Cell>) -> Result<(), AllocError>
     ensures { OnOk result (row_of_cells cells.new.items ≡ row_of_cells cells.old.items ++ row_of_cells other.items) }
 {
@@ -325,7 +325,7 @@ pub fn push_cell(cells: &mut Vec<Cell>, cell: Cell) -> Result<(), AllocError>
     Ok(())
 }
 
-/// The cell is set at each column from `start` on and before `end`, in turn. Room for all of them is
+/// Sets the cell at each column from `start` on and before `end`, in turn. Room for all of them is
 /// reserved first, so a range that memory can't hold is refused at once.
 pub fn fill(cells: &mut Vec<Cell>, start: usize, end: usize, cell: &Cell) -> Result<(), AllocError>
     ensures { OnOk result
@@ -409,7 +409,8 @@ fn pruned_width(cells: &[Cell]) -> usize
     width
 }
 
-/// Drops the plain blanks at the end, unless nothing would be left; returns whether something is.
+/// Drops the plain blanks at the end, unless no cell would be left; returns whether one is. With `false`, the row is
+/// unchanged.
 pub fn prune(cells: &mut Vec<Cell>) -> Result<bool, AllocError>
     ensures none { IfOk result
         (λ some. some ≡ false

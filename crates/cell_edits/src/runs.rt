@@ -16,7 +16,7 @@ use cell_base::{Cell, CellAttributes, Widths};
 use std::alloc::{AllocError, Global};
 use text_clusters::split_first_cluster;
 
-// The cell at a position becomes that of a printable character.
+// Makes the cell at a position that of a printable character.
 #[inline(always)]
 fn put_ascii(
     cells: &mut Vec<Cell>,
@@ -82,7 +82,7 @@ fn write_blanks(
     Ok(())
 }
 
-/// Blanks take the columns of a range.
+/// Sets the columns of a range to blanks.
 pub fn set_blanks(
     cells: &mut Vec<Cell>,
     start: usize,
@@ -135,7 +135,7 @@ fn write_plain(
     Ok(())
 }
 
-/// Printable ASCII characters (20h to 7Eh) take a column each from `at` on.
+/// Sets the columns from `at` on to the printable ASCII characters (20h to 7Eh) of a text, a column each.
 #[inline(always)]
 pub fn set_plain(
     cells: &mut Vec<Cell>,
@@ -170,7 +170,7 @@ fn cluster_columns(cluster: &str, width: usize) -> usize
     }
 }
 
-// The cell of a cluster takes its columns from `at` on.
+// Sets the columns from `at` on to those of the cell of a cluster.
 #[inline(always)]
 fn write_cluster(
     alloc: Global,

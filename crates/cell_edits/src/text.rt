@@ -26,7 +26,7 @@ pub fn cells_of_text<W: Widths>(
     Ok(cells)
 }
 
-/// Each cluster of the text is set, side by side from `start` on.
+/// Sets the cells of the clusters of the text, side by side from `start` on.
 pub fn overlay<W: Widths>(
     alloc: Global,
     cells: &mut Vec<Cell>,

@@ -20,7 +20,7 @@ bits_for DoubleWidthLine = 1
 bits_for DoubleHeightTopHalfLine = 3
 bits_for DoubleHeightBottomHalfLine = 5
 
--- how a line of these bits is shown
+-- the line attribute that has these bits
 abbrev pub shown_by : ℕ → LineAttribute
 shown_by bits =
     if bits == 0 then SingleWidthLine

@@ -7,6 +7,6 @@ use Rattle.cell_line.specs.declared.line_bits.LineBits.TheInside.{Inside}
 abbrev pub attribute_of : Inside → LineAttribute
 attribute_of a = shown_by (bits_of a.set)
 
--- only the bits of a way to show a line are set
+-- the bits are those of a line attribute
 abbrev pub IsLawful : Inside → Type 0
 IsLawful a = bits_for (attribute_of a) ≡ bits_of a.set

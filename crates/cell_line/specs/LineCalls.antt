@@ -92,7 +92,7 @@ wrap line width number =
 abbrev pub changed_since : LineContent → ℕ → Bool
 changed_since line number = line.number == 0 || nat_lt number line.number
 
--- the number alone
+-- only the number changes
 abbrev pub update_last_change_seqno : LineContent → ℕ → LineContent
 update_last_change_seqno line number = record line { number = max line.number number }
 
@@ -131,12 +131,12 @@ is_double_height_bottom line = same_bits line.bits DoubleHeightBottomHalfLine
 -- ---- zones, links, cutting and joining, words
 
 -- the visible cells up to the last that isn't a plain blank, or all if there is none, in groups of neighbours of one
--- semantic type, as long as may be; each from its first cell's column to its last one's, where columns past 65,535
--- count as that
+-- semantic type, each as long as possible; a zone is from its first cell's column to its last one's, where columns past
+-- 65,535 count as 65,535
 abbrev pub semantic_zone_ranges : LineContent → List ZoneRange
 semantic_zone_ranges line = zones (visible line.columns)
 
--- links that were found in a text go; where there is none nothing changes, the number neither
+-- the links that were found in a text are dropped; where there is none nothing changes, not even the number
 abbrev pub invalidate_implicit_hyperlinks : LineContent → ℕ → LineContent
 invalidate_implicit_hyperlinks line number =
     if has_implicit_link line.columns then changed line number (map (column_with without_implicit) line.columns)
@@ -146,7 +146,7 @@ invalidate_implicit_hyperlinks line number =
 abbrev pub split_off_kept : LineContent → ℕ → LineContent
 split_off_kept line at = record line { columns = cut (min at (length line.columns)) line.columns }
 
--- and the result: the columns from there on, as a line of cells with this number and the same bits
+-- the line that `split_off` returns: the columns from there on, as a line of cells with this number and the same bits
 abbrev pub split_off : LineContent → ℕ → ℕ → LineContent
 split_off line at number =
     record line { number = number; columns = cut_prefix (min at (length line.columns)) line.columns; clustered = false }
@@ -155,11 +155,11 @@ split_off line at number =
 abbrev pub append_line : LineContent → LineContent → ℕ → LineContent
 append_line line other number = changed line number (line.columns ++ other.columns)
 
--- nothing at the column, where that is at the end or past it. Else the words are the visible cells whose texts pass the
--- test: up to one past the first column of the last of the unbroken words from the first cell at or after the column
--- on; down to the first column of the first of the unbroken words from the last cell at or before it back; each the
--- column itself where there is none. With a wrap where the range isn't empty, reaches the end, and the line goes on
--- after its last visible cell
+-- an empty range at the column, where that is at the end or past it. Otherwise, with the visible cells whose texts pass
+-- the test as word cells: from the first column of the run of word cells that ends with the last cell at or before the
+-- column, to one past the first column of the last cell in the run of word cells that begins with the first cell at or
+-- after it; each is the column itself where there is no such run. With a wrap where the range isn't empty, reaches the
+-- end, and the line goes on after its last visible cell
 abbrev pub compute_double_click_range : LineContent → ℕ → (List ℕ → Bool) → DoubleClickRange
 compute_double_click_range line at is_word = double_click_range is_word at line.columns
 
@@ -169,7 +169,8 @@ compute_double_click_range line at is_word = double_click_range is_word at line.
 abbrev pub columns_as_str : LineContent → ℕ → ℕ → List ℕ
 columns_as_str line start end = texts_joined (cells_between start end line.columns)
 
--- these cells, whole, side by side, as a line of cells; the line's number, no bits
+-- the visible cells that begin in a range of columns, whole, side by side, as a line of cells; the line's number, no
+-- bits
 abbrev pub columns_as_line : LineContent → ℕ → ℕ → LineContent
 columns_as_line line start end = line_of line.number (row_of_visible (cells_between start end line.columns))
 
@@ -222,7 +223,7 @@ set_plain line at text attributes = record line { columns = overlaid line.column
 abbrev pub insert_cell : LineContent → ℕ → CellContent → ℕ → ℕ → LineContent
 insert_cell line at cell margin number = changed line number (with_inserted line.columns at cell margin)
 
--- the column is removed; past the end nothing changes, the number neither
+-- the column is removed; past the end nothing changes, not even the number
 abbrev pub remove_cell : LineContent → ℕ → ℕ → LineContent
 remove_cell line at number =
     if nat_lt at (length line.columns) then changed line number (removed at line.columns) else line
@@ -240,7 +241,8 @@ erase_cell_with_margin line at margin number attributes =
 
 -- ---- pruning and filling
 
--- the plain blanks at the end go; where no column would be left, or none is there, nothing changes, the number neither
+-- the plain blanks at the end are dropped; where no column would be left, or none is there, nothing changes, not even
+-- the number
 abbrev pub prune_trailing_blanks : LineContent → ℕ → LineContent
 prune_trailing_blanks line number = changed_unless_empty line number (pruned_row line.columns)
 
@@ -278,7 +280,7 @@ visible_cells line = visible line.columns
 abbrev pub visible_cells_between : LineContent → ℕ → ℕ → List VisibleCell
 visible_cells_between line start end = region start end line.columns
 
--- the clusters of these, as long as may be, in order
+-- the clusters of the visible cells, each as long as possible, in order
 abbrev pub cluster : LineContent → List ClusterContent
 cluster line = cell_clusters (visible line.columns)
 
@@ -297,7 +299,7 @@ get_cell line at = cell_at at line.columns
 abbrev pub is_whitespace : LineContent → Bool
 is_whitespace line = is_whitespace_row line.columns
 
--- clustered
+-- the line, clustered
 abbrev pub compress_for_scrollback : LineContent → LineContent
 compress_for_scrollback line = record line { clustered = true }
 
@@ -305,7 +307,7 @@ compress_for_scrollback line = record line { clustered = true }
 abbrev pub last_cell_was_wrapped : LineContent → Bool
 last_cell_was_wrapped line = ends_wrapped (visible line.columns)
 
--- the last visible cell is one after which the line goes on, or not; no cell changes where there is none
+-- sets whether the line goes on after its last visible cell; no cell changes where there is none
 abbrev pub set_last_cell_was_wrapped : LineContent → Bool → ℕ → LineContent
 set_last_cell_was_wrapped line wrapped number = changed line number (row_end_wrapped wrapped line.columns)
 

@@ -35,7 +35,7 @@ pub record SameShown (one other : LineContent) : Type 0 where
   pub bits : one.bits ≡ other.bits
   pub columns : one.columns ≡ other.columns
 
--- other columns, and the number of a change if that is the later one
+-- the line with these columns, and with the number of a change if that is the later one
 abbrev pub changed : LineContent → ℕ → Row → LineContent
 changed line number columns = record line { number = max line.number number; columns = columns }
 
@@ -49,7 +49,7 @@ pub record IsRefused (before after : LineContent) : Type 0 where
   pub number : after.number ≡ before.number
   pub bits : after.bits ≡ before.bits
 
--- whether bits are these
+-- whether two line attributes are the same
 abbrev pub same_bits : LineAttribute → LineAttribute → Bool
 same_bits SingleWidthLine SingleWidthLine = true
 same_bits DoubleWidthLine DoubleWidthLine = true
@@ -57,6 +57,6 @@ same_bits DoubleHeightTopHalfLine DoubleHeightTopHalfLine = true
 same_bits DoubleHeightBottomHalfLine DoubleHeightBottomHalfLine = true
 same_bits _ _ = false
 
--- other bits, and the number of a change if that is the later one
+-- the line with these bits, and with the number of a change if that is the later one
 abbrev pub with_bits : LineContent → ℕ → LineAttribute → LineContent
 with_bits line number bits = record line { number = max line.number number; bits = bits }

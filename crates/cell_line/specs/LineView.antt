@@ -5,7 +5,7 @@ use Rattle.cell_base.specs.Row.{Row}
 use Rattle.cell_line.specs.LineContent.{LineContent}
 use Rattle.cell_line.specs.declared.line.Line.TheInside.{Inside}
 
--- of a clustered line its row, of any other its cells, read from the left
+-- the columns of a line: of a clustered one its row, of any other its cells, read from the left
 abbrev pub columns_kept : Bool → Inside → Row
 columns_kept true a = a.row
 columns_kept false a = row_of_cells a.cells.items

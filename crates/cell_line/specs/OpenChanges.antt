@@ -8,7 +8,7 @@ use Rattle.screen_change.specs.CellRuns.{is_blank_of}
 use Rattle.screen_change.specs.ChangeValue.{ChangeValue}
 use Rattle.cell_edits.specs.VisibleCells.{VisibleCell}
 
--- the background of a cell that is a blank of it
+-- the background of a cell that is a space, plain except for its background
 abbrev pub background_of : CellContent → Option ColorAttribute
 background_of cell = if is_blank_of cell.attributes.background cell then Some cell.attributes.background else None
 

@@ -7,7 +7,7 @@ use Rattle.cell_edits.specs.CellList.{cell_columns}
 use Rattle.cell_edits.specs.VisibleCells.{VisibleCell, is_space, row_end_wrapped}
 use Rattle.cell_views.specs.OpenZones.{is_kept_by}
 
--- whether a cell doesn't fit after the columns that are there
+-- whether a cell doesn't fit in a row that has `there` columns already
 abbrev pub breaks : ℕ → ℕ → CellContent → Bool
 breaks width there cell = nat_lt 0 there && nat_lt width (there + length (cell_columns cell))
 

@@ -18,7 +18,7 @@ use cell_views::{CellRef, StoredCells, VisibleCellIter};
 use screen_change::{CellWriter, Change};
 use std::alloc::{AllocError, Global};
 
-// Plain attributes on a background.
+// Plain attributes with a background colour.
 fn blank_attrs(color: ColorAttribute) -> CellAttributes
     ensures { result ≡ blank_of color }
 {
@@ -58,7 +58,7 @@ fn background_at_end(cells: StoredCells<'_>) -> Option<ColorAttribute>
     found
 }
 
-// The column of the cell, unless it is a blank of this background.
+// The column of the cell, or `last` where the cell is a blank of this background.
 fn later_non_blank(color: ColorAttribute, last: Option<usize>, cell: &CellRef<'_>) -> Option<usize>
     ensures { result ≡ (if is_blank_of color (shown_by cell.now).cell then last else Some (shown_by cell.now).column) }
 {
@@ -80,7 +80,7 @@ fn last_non_blank(cells: StoredCells<'_>, color: ColorAttribute) -> Option<usize
     last
 }
 
-// Writes the cells up to a column, or all.
+// Writes the cells up to column `last`, or all with `None`.
 fn write_cells<'a>(
     writer: &mut CellWriter<'a>,
     cells: StoredCells<'a>,
@@ -112,7 +112,7 @@ fn write_clear(writer: &mut CellWriter<'_>, color: ColorAttribute) -> Result<(),
     }
 }
 
-// A clear alone.
+// The clear to the end of the row, where no cells precede the blanks.
 fn clear_alone(
     alloc: Global,
     start: &CellAttributes,
@@ -126,7 +126,7 @@ fn clear_alone(
     Ok(changes)
 }
 
-// All cells.
+// The changes that write all cells.
 fn all_written<'a>(
     alloc: Global,
     cells: StoredCells<'a>,
@@ -142,7 +142,8 @@ fn all_written<'a>(
     Ok(changes)
 }
 
-// The cells up to a column, and a clear after them that leaves blanks with these attributes.
+// The changes that write the cells up to a column, and a clear after them that leaves blanks with the attributes
+// `blank`.
 fn written_before<'a>(
     alloc: Global,
     cells: StoredCells<'a>,
@@ -166,7 +167,7 @@ fn written_before<'a>(
     Ok(changes)
 }
 
-// The cells up to a column, and a clear after them.
+// The changes that write the cells up to a column, and a clear after them.
 fn written_with_clear(
     alloc: Global,
     cells: StoredCells<'_>,

@@ -25,7 +25,7 @@ ghost use Rattle.cell_line.specs.Samples.{letters, wide_letter, letter_cell, is_
 use crate::line::Line;
 use cell_base::{AttributeChange, SemanticType};
 
-/// Of two semantic types that of output is less than that of input, and this less than that of the prompt.
+/// The order of semantic types: output is less than input, and input is less than prompt.
 pub fn semantic_types_are_in_order(one: SemanticType, other: SemanticType) -> bool
     ensures { IsTrue result ↔ (rank one < rank other) }
 {
@@ -60,8 +60,8 @@ pub fn rows_and_their_cells()
         ++ visible_from (at + length columns) (cut_prefix (at + length columns) row) }
 {}
 
-/// Within a row a cell that is set takes its columns, cells that are set side by side take theirs at
-/// once, and so does a cell of one column that is set at each of some columns.
+/// Within a row, setting a cell sets its columns. Setting cells side by side sets their columns at
+/// once, and so does setting a cell of one column at each column of a range.
 pub fn cells_set_within()
     ensures one { (row : Row) (at : ℕ) (cell : CellContent) → at + length (cell_columns cell) ≤ length row
         → with_cell row at cell ≡ set_columns row at (cell_columns cell) }
@@ -141,7 +141,7 @@ pub fn parts_of_lines()
     ensures all { as_str (line_of 1 (letters (codes "abcd"))) ≡ codes "abcd" }
 {}
 
-/// A law, which needs no call: a double click takes a word, and nothing on a space or past the end.
+/// A law, which needs no call: a double click selects a word, and nothing on a space or past the end.
 pub fn double_clicked_words()
     ensures word { compute_double_click_range (line_of 1 (letters (codes "ab cd"))) 1 is_word
         ≡ Range (columns_between 0 2) }

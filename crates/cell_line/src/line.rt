@@ -24,8 +24,9 @@ use std::marker::Model;
 /// half of a wide cell alone, that half becomes a blank with the wide cell's attributes.
 ///
 /// The columns are kept as cells, or clustered: as one text and runs of equal attributes; `stored`
-/// tells which. A line stays what it is, except that `compress_for_scrollback` makes it clustered, and
-/// `cells_mut` makes it one of cells. Nothing else tells the two apart.
+/// tells which. Edits keep the form, except that `compress_for_scrollback` and `row_writing::reset` make
+/// the line clustered, and `cells_mut` and `cells_mut_for_attr_changes_only` make it one of cells.
+/// Nothing else tells the two apart.
 ///
 /// Calls that change a line take the number of the change, and the line keeps the greatest.
 /// A call that is refused memory leaves number and bits as they were; the columns, and how they are
@@ -36,9 +37,9 @@ pub struct Line {
     pub(crate) number: SequenceNo,
     pub(crate) bits: LineBits,
     pub(crate) is_clustered: bool,
-    // None where the line is clustered.
+    // The cells of a line of cells; empty where the line is clustered.
     pub(crate) cells: Vec<Cell>,
-    // Of a clustered line.
+    // The columns of a clustered line.
     pub(crate) row: ClusteredRow,
 }
 
@@ -214,7 +215,7 @@ impl Line {
         query::same_columns(self.stored_cells(), other.stored_cells())
     }
 
-    /// A copy, kept alike.
+    /// A copy, kept in the same form.
     pub fn try_clone(&self) -> Result<Line, AllocError>
         ensures { IfOk result (λ copy. copy ≡ self.now) }
     {

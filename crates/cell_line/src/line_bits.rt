@@ -36,7 +36,7 @@ impl BitSet {
         },
     ];
 
-    // The bits of a line that is shown so.
+    // The bits of a line with this line attribute.
     fn shown_as(attribute: LineAttribute) -> BitSet
         ensures { bits_of result ≡ bits_for attribute }
     {
@@ -91,7 +91,7 @@ impl Model for LineBits {
 }
 
 impl LineBits {
-    // The bits of a line that is shown so.
+    // The bits of a line with this line attribute.
     pub(crate) fn new(attribute: LineAttribute) -> LineBits
         ensures { result ≡ attribute }
     {
@@ -107,7 +107,7 @@ impl LineBits {
         LineBits { set: self.set }
     }
 
-    // Whether a line of these bits is shown so.
+    // Whether these are the bits of a line with this line attribute.
     pub(crate) fn shows(&self, attribute: LineAttribute) -> bool
         ensures { result ≡ same_bits self.now attribute }
     {

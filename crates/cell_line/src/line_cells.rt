@@ -33,8 +33,8 @@ fn fill(cells: &mut Vec<Cell>, cols: Range<usize>, cell: &Cell) -> Result<(), Al
 }
 
 impl Line {
-    /// Sets a cell, whose columns are `idx` and, if it is wide, the next one. Plain blanks come
-    /// before it where the line doesn't reach so far.
+    /// Sets a cell, whose columns are `idx` and, if it is wide, the next one. A line that ends before
+    /// the cell's end is padded with plain blanks first.
     pub fn set_cell(&mut self, idx: usize, cell: Cell, seqno: SequenceNo) -> Result<(), AllocError>
         ensures done { OnOk result (self.new ≡ set_cell self.old idx cell seqno) }
         ensures refused { OnErr result (IsRefused self.old self.new) }
@@ -113,8 +113,8 @@ impl Line {
         Ok(())
     }
 
-    /// Inserts a cell before column `x`, after plain blanks where the line doesn't reach so far.
-    /// The last column within `right_margin` columns goes before that, if it is there.
+    /// Drops the last column within `right_margin` columns, if the line has it, and then inserts a cell
+    /// at column `x`. A line that ends before `x` is padded with plain blanks to it.
     pub fn insert_cell(
         &mut self,
         x: usize,

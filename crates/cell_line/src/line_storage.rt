@@ -17,7 +17,7 @@ use std::alloc::{AllocError, Global};
 use std::mem;
 
 // Sets the cells to the cells that the columns show, one for each: of a clustered line the cells of its row. A refusal
-// leaves what they show.
+// doesn't change what they show.
 pub(crate) fn settle(
     alloc: Global,
     is_clustered: bool,
@@ -88,7 +88,7 @@ impl Line {
         Ok(())
     }
 
-    /// Makes the line small for keeping: clustered, as `stored` tells. It reads as before.
+    /// Makes the line clustered, for the scrollback; see `stored`. It shows the same as before.
     pub fn compress_for_scrollback(&mut self) -> Result<(), AllocError>
         ensures done { OnOk result (self.new ≡ compress_for_scrollback self.old) }
         ensures refused { OnErr result (IsRefused self.old self.new) }

@@ -43,8 +43,8 @@ impl Line {
         VisibleCellIter::new(self.stored_cells())
     }
 
-    /// The visible cells of a range of columns, each with its first column, in order. Of a cell that
-    /// an edge cuts the columns within are blanks with its attributes.
+    /// The visible cells of a range of columns, each with its first column, in order. Where an
+    /// edge cuts a wide cell, its column within the range is a blank with its attributes.
     pub fn visible_cells_between(&self, cols: Range<usize>) -> RegionIter<'_>
         requires order { cols.start ≤ cols.end }
         requires within { cols.end ≤ length self.now.columns }
@@ -63,9 +63,9 @@ impl Line {
     /// The changes that write the line where the pen has these attributes, on blanks of the default
     /// background: each run of neighbours of equal attributes has its attributes, unless the pen has
     /// them, and then its texts, joined where the clusters of the joined text (UAX 29) are the cells.
-    /// Blanks at the end, plain except for one background, aren't written: their attributes replace
-    /// them, where other cells precede them, and a clear to the end of the line, unless their
-    /// background is the default one.
+    /// Blanks at the end, plain except for one background, aren't written as a text. Their attributes
+    /// come in place of them, where other cells precede them, and then a clear to the end of the line,
+    /// unless their background is the default one.
     pub fn changes(&self, start_attr: &CellAttributes) -> Result<Vec<Change>, AllocError>
         ensures { IfOk result (λ found. map value_of found.items ≡ changes self.now start_attr.now) }
     {
@@ -107,8 +107,8 @@ impl Line {
         Ok(Line::from_cells(self.alloc, cells, self.number))
     }
 
-    /// The line in rows of at most `width` columns, each a line of cells at normal size; a cell alone may
-    /// pass it. The spaces after the last other text are dropped. The line goes on after each row except the
+    /// The line in rows of at most `width` columns, each a line of cells at normal size; a single cell
+    /// may be wider. The spaces after the last other text are dropped. The line goes on after each row except the
     /// last. A line whose texts are all spaces stays as it is. If memory is refused the line is dropped.
     pub fn wrap(mut self, width: usize, seqno: SequenceNo) -> Result<Vec<Line>, AllocError>
         ensures { IfOk result (λ lines. lines.items ≡ wrap self width seqno) }
@@ -152,14 +152,14 @@ impl Line {
         zones::zones(self.alloc, self.stored_cells())
     }
 
-    /// The columns of the unbroken words round a column, where `is_word` says of a visible cell's
-    /// text whether it belongs to one: from the first column of the first of them back from the
-    /// last cell at or before `click_col` to one past the first column of the last of them from
-    /// the first cell at or after it. Each end is `click_col` where there is none, and where that
-    /// is past the end of the line. `RangeWithWrap` says that the range reaches the end of the line
-    /// and the line goes on after it. `is_word` is asked of the cells up to `click_col` and then of those
-    /// from it on, each time in order of columns, so it may be asked of one cell twice; nothing is promised
-    /// of that.
+    /// The columns of the words around a column. A word cell is a visible cell for whose text `is_word`
+    /// returns true. The range starts with the first column of the run of word cells that ends with the
+    /// last cell at or before `click_col`. It ends one past the first column of the last cell in the run
+    /// of word cells that begins with the first cell at or after `click_col`. Each end is `click_col`
+    /// where there is no such run, and where `click_col` is at or past the end of the line.
+    /// `RangeWithWrap` means that the range reaches the end of the line and the line goes on after it.
+    /// `is_word` is called for the cells up to `click_col` and then for those from it on, each time in the
+    /// order of columns, so it may be called twice for one cell; nothing is promised of that.
     pub fn compute_double_click_range<F: Fn(&str) -> bool>(
         &self,
         click_col: usize,

@@ -12,7 +12,7 @@ use cell_edits::{row, runs};
 use std::alloc::AllocError;
 
 impl Line {
-    /// Makes the line as wide as that: columns at its end go, or plain blanks come.
+    /// Makes the line `width` columns wide: drops columns at its end, or appends plain blanks.
     pub fn resize(&mut self, width: usize, seqno: SequenceNo) -> Result<(), AllocError>
         ensures done { OnOk result (self.new ≡ resize self.old width seqno) }
         ensures refused { OnErr result (IsRefused self.old self.new) }
@@ -22,7 +22,7 @@ impl Line {
         Ok(())
     }
 
-    // Makes the line as wide as that; the number stays.
+    // Makes the line `width` columns wide; the number stays.
     fn set_width(&mut self, width: usize) -> Result<(), AllocError>
         ensures done { OnOk result (self.new ≡ record self.old { columns = resized width self.old.columns }) }
         ensures refused { OnErr result (IsRefused self.old self.new) }

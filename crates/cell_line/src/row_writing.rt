@@ -1,5 +1,5 @@
 //! Rows of lines that are made and written without the number of a change, for screens, which number their changes
-//! themselves. Who edits lines of their own uses the calls of `Line`.
+//! themselves. Callers that edit lines of their own use the calls of `Line`.
 ghost use Rattle.std.specs.Prelude.{◌≡◌, ◌≤◌, ◌+◌, true, length, drop, IfOk, OnOk, OnErr};
 ghost use Rattle.std.specs.List.{list_all};
 ghost use Rattle.text_clusters.specs.Plain.{is_printable};
@@ -44,8 +44,8 @@ fn reset_row(alloc: Global, row: &mut ClusteredRow, width: usize)
     *row = ClusteredRow::new(alloc, width);
 }
 
-/// Makes a line one of plain blanks, clustered, with number 0 and at normal size, whatever it was. It asks for no
-/// memory, and what the line will show takes the place of what it showed.
+/// Makes any line one of `width` plain blanks, clustered, with number 0 and at normal size. It asks for no memory; a
+/// clustered line that has this width already keeps its memory for what is written next.
 #[inline(always)]
 pub fn reset(line: &mut Line, width: usize)
     ensures { line.new ≡ with_width_clustered width 0 }

@@ -60,7 +60,7 @@ fn read_between(
     Ok(kept)
 }
 
-// A blank with the cell's attributes follows the columns that are there.
+// Appends a blank with the cell's attributes.
 fn push_blank_for(cells: &mut Vec<Cell>, cell: &Cell) -> Result<(), AllocError>
     requires { ends_split cells.old.items ≡ false }
     ensures { OnOk result
@@ -104,14 +104,14 @@ fn last_text(cells: &[Cell]) -> Option<usize>
     last
 }
 
-// Whether the cell doesn't fit after the columns that are there.
+// Whether the cell doesn't fit in a row that has `there` columns already.
 fn breaks(width: usize, there: usize, cell: &Cell) -> bool
     ensures { result ≡ breaks width there cell.now }
 {
     there > 0 && there as u128 + column_count(cell) as u128 > width as u128
 }
 
-// The open row becomes a line after which another goes on.
+// Makes the open row a line that goes on in the next one, and begins an empty row.
 fn close_row(
     alloc: Global,
     lines: &mut Vec<Line>,
@@ -128,7 +128,7 @@ fn close_row(
     Ok(())
 }
 
-// The cell goes into the open row, or begins a new one where it doesn't fit.
+// Appends the cell to the open row, or begins a new row with it where it doesn't fit.
 fn append_cell(
     alloc: Global,
     lines: &mut Vec<Line>,

@@ -1,4 +1,4 @@
--- The changes that make parts of a display show what others show.
+-- The changes that make parts of a display show what other rows show.
 use Rattle.std.specs.Prelude.{ℕ, List, [], ◌∷◌, ◌++◌, length}
 use Rattle.cell_base.specs.declared.attributes.Position.TheVariants.{Absolute}
 use Rattle.cell_base.specs.Row.{Row}
@@ -7,16 +7,16 @@ use Rattle.screen_difference.specs.Difference.{difference}
 use Rattle.screen_difference.specs.FreshCells.{region_fresh, lines_fresh}
 use Rattle.screen_effects.specs.Display.{Display}
 
--- a region, against one of the other display
+-- the difference of a region of the display from one of the other display
 abbrev pub regions_difference : Display → ℕ → ℕ → ℕ → ℕ → Display → ℕ → ℕ → List ChangeValue
 regions_difference display x y width height other other_x other_y =
     difference (region_fresh display.screen.rows x y width height other.screen.rows other_x other_y)
 
--- the rows from row y on, against other rows
+-- the difference of the rows from row y on from other rows
 abbrev pub lines_difference : Display → ℕ → List Row → List ChangeValue
 lines_difference display y rows = difference (lines_fresh display.screen.rows y rows)
 
--- the cursor's position, and the pen
+-- the changes that set the cursor's position and the pen as they are
 abbrev pub brought_back : Display → List ChangeValue
 brought_back display =
     CursorPosition (Absolute display.screen.column) (Absolute display.screen.row) ∷ AllAttributes display.screen.pen

@@ -52,7 +52,7 @@ pub record AddsAll {W : Type 0} (width_of : List ℕ → ℕ) (before after : Su
     pub log : after.log ≡ all_logged before.log changes
     pub stays : after.is_failed ≡ false
 
--- it has another size
+-- the surface was resized
 pub record Resizes {W : Type 0} (width height : ℕ) (before after : Surface W) : Type 0 where
   pub shown : shown_by after ≡ resized width height (shown_by before)
   pub widths : after.grid.widths ≡ before.grid.widths

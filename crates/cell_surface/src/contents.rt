@@ -13,7 +13,7 @@ use cell_base::{Cell, Widths};
 use cell_line::{CellRef, Line};
 use std::alloc::{AllocError, Global};
 
-// The text of a line, and a line feed.
+// Appends the text of a line and a line feed.
 fn push_line(text: &mut String, line: &Line) -> Result<(), AllocError>
     ensures { OnOk result (string_bytes text.new ≡ string_bytes text.old ++ row_text line.now.columns ++ 10 ∷ []) }
 {
@@ -24,7 +24,7 @@ fn push_line(text: &mut String, line: &Line) -> Result<(), AllocError>
     Ok(())
 }
 
-// A copy of a cell, and after a wide one a blank with its attributes.
+// Appends a copy of a cell, and after a wide cell a blank with its attributes.
 fn push_cell(alloc: Global, cells: &mut Vec<Cell>, cell: &CellRef<'_>) -> Result<(), AllocError>
     ensures { OnOk result (cells.new.items ≡ cells.old.items ++ cells_of (cell_shown cell.now).cell) }
 {

@@ -17,8 +17,9 @@ use std::alloc::AllocError;
 impl<W: Widths + Drop> Surface<W> {
     /// The changes that make a region of this surface, whose top left is at column `x` and row `y`,
     /// show what the other one shows from `other_x` and `other_y` on: the cells that this one doesn't
-    /// show yet, each run of neighbours after its position. Columns and rows that either side lacks are
-    /// left out, and a wide cell that the region's edge cuts counts as a blank with its attributes.
+    /// show yet, where each run of adjacent cells follows a change that moves the cursor to it. Columns and
+    /// rows that either side lacks are left out, and a wide cell that the region's edge cuts counts as a blank
+    /// with its attributes.
     pub fn diff_region(
         &self,
         x: usize,
@@ -84,8 +85,8 @@ impl<W: Widths + Drop> Surface<W> {
         Ok(changes)
     }
 
-    /// The changes that make this surface show what another one shows, as far as both go. What this one shows is
-    /// lawful.
+    /// The changes that make this surface show what another one shows, in the columns and rows that both have. The
+    /// screen of this surface is lawful while it hasn't failed.
     pub fn diff_screens(&self, other: &Surface<W>) -> Result<Vec<Change>, SurfaceError>
         ensures changes { IfOk result
             (λ changes. map value_of changes.items
@@ -106,7 +107,7 @@ impl<W: Widths + Drop> Surface<W> {
 
     /// Draws another surface with its top left at column `x` and row `y`: adds the difference there, and
     /// then the cursor's position and the pen as they were. Columns and rows that this surface lacks are left
-    /// out. Answers as `add_changes` of the whole list.
+    /// out. Returns what `add_changes` of the whole list returns.
     pub fn draw_from_screen(
         &mut self,
         other: &Surface<W>,

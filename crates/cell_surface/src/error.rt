@@ -6,8 +6,8 @@ use std::alloc::AllocError;
 use thiserror::Error;
 
 /// Why a call of a surface was refused. Where several of these apply, the call returns the first of
-/// them; but while `draw_from_screen` and `copy_region` make their difference, want of memory comes
-/// before the numbers.
+/// them, except that `draw_from_screen` and `copy_region` return `Memory` and not `Number` where memory is
+/// refused while they make their difference.
 #[derive(Clone, Copy, Debug, PartialEq, Eq, Error)]
 pub enum SurfaceError {
     /// An earlier call that changes the surface was refused memory. Nothing was changed; every call that

@@ -12,7 +12,7 @@ use cell_base::{SequenceNo, Widths};
 use screen_change::Change;
 use std::alloc::AllocError;
 
-/// The changes that are due from a number on, as `get_changes` borrows them; `None` where that paints the screen anew.
+/// The changes that are due from a number on, as `get_changes` borrows them; `None` where it returns a repaint.
 pub fn due_changes<W: Widths + Drop>(surface: &Surface<W>, seq: SequenceNo) -> Option<&[Change]>
     ensures { option_map (λ changes. map value_of changes.now) result
         ≡ due surface.now.log.most surface.now.log.log seq }
@@ -20,8 +20,8 @@ pub fn due_changes<W: Widths + Drop>(surface: &Surface<W>, seq: SequenceNo) -> O
     surface.log.due(seq)
 }
 
-/// The changes that paint the screen on any screen of its size, as `get_changes` gives them, but with the title also
-/// where it is empty. Want of memory is the only refusal.
+/// The changes that paint the screen on any screen of its size, as the repaint of `get_changes`, except that they set
+/// the title also where it is empty. It fails only where memory is refused.
 pub fn repaint_with_title<W: Widths + Drop>(surface: &Surface<W>) -> Result<Vec<Change>, AllocError>
     requires { surface.now.is_failed ≡ false }
     ensures { IfOk result (λ changes. map value_of changes.items

@@ -80,7 +80,7 @@ impl<W: Widths + Drop> Surface<W> {
         })
     }
 
-    /// How many columns and rows there are: what is shown is lawful.
+    /// How many columns and rows the screen has. The screen is lawful while the surface hasn't failed.
     pub fn dimensions(&self) -> (usize, usize)
         ensures width { result.0 ≡ self.now.grid.width }
         ensures height { result.1 ≡ length self.now.grid.lines }
@@ -137,7 +137,7 @@ impl<W: Widths + Drop> Surface<W> {
         self.grid.lines()
     }
 
-    /// Whether the number of changes isn't this one.
+    /// Whether the number of changes differs from `seq`.
     pub fn has_changes(&self, seq: SequenceNo) -> bool
         ensures { result ≡ not (number_of self.now == seq) }
     {
@@ -152,7 +152,7 @@ impl<W: Widths + Drop> Surface<W> {
         self.is_failed
     }
 
-    /// Drops the changes before a number from the log; none where it lies above the current one.
+    /// Drops the changes before the number `seq` from the log; none where `seq` is above the current number.
     pub fn flush_changes_older_than(&mut self, seq: SequenceNo)
         ensures flushed { self.old.is_failed ≡ false
             → self.new ≡ record self.old { log = step_of_kept self.old.log (Forgotten seq) } }
@@ -208,7 +208,7 @@ impl<W: Widths + Drop> Surface<W> {
         self.log.pooled_text()
     }
 
-    // A change has its effect, and joins the log.
+    // Applies a change, and appends it to the log.
     #[inline(always)]
     pub(crate) fn push(&mut self, change: Change) -> Result<(), AllocError>
         requires stays { self.old.is_failed ≡ false }
@@ -223,7 +223,7 @@ impl<W: Widths + Drop> Surface<W> {
         Ok(())
     }
 
-    // Changes in turn. Where the number would pass `usize::MAX` nothing is changed.
+    // Applies and logs changes in turn. Where the number would pass `usize::MAX` nothing is changed.
     pub(crate) fn push_all(&mut self, changes: Vec<Change>) -> Result<SequenceNo, SurfaceError>
         requires { self.old.is_failed ≡ false }
         ensures number { IfOk result (λ n. n ≡ number_of self.old - 1 + length changes.items) }

@@ -12,16 +12,16 @@ use Rattle.cell_views.specs.declared.visible_cells.Left.{Left}
 use Rattle.cell_views.specs.declared.visible_cells.Left.TheVariants.{Cells, Clustered}
 use Rattle.cell_views.specs.declared.visible_cells.VisibleCellIter.{VisibleCellIter}
 
--- a cell takes one or two columns
+-- the columns that a cell takes: 2 where its width is at least 2, else 1
 abbrev pub one_or_two : ℕ → ℕ
 one_or_two width = if nat_le 2 width then 2 else 1
 
--- the visible cell that is borrowed
+-- the `VisibleCell` of a borrowed cell
 abbrev pub shown_by : CellRef → VisibleCell
 shown_by (of_cell column cell) = visible_at column cell.now.text (one_or_two cell.now.width) cell.now.attributes
 shown_by (of_cluster column text width attributes) = visible_at column text.now (one_or_two width) attributes.now
 
--- the cell that a copy is
+-- the cell that `as_cell` returns
 abbrev pub copied_by : CellRef → CellContent
 copied_by (of_cell column cell) = cell.now
 copied_by (of_cluster column text width attributes) = cell_of text.now (one_or_two width) attributes.now
@@ -38,7 +38,7 @@ left_of_cells s = visible_from s.cell_index (row_of_cells s.cells.now)
 abbrev pub left_of_clustered : ClusteredLeft → List VisibleCell
 left_of_clustered s = clustered.cells_left s.cells ++ half_left s.half
 
--- and of either kind of row
+-- the remaining cells of either kind of row
 abbrev pub left_of : Left → List VisibleCell
 left_of (Cells cells) = left_of_cells cells
 left_of (Clustered cells) = left_of_clustered cells

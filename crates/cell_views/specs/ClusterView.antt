@@ -39,7 +39,7 @@ last_of [] = []
 last_of (cells ∷ []) = cells
 last_of (cells ∷ more ∷ groups) = last_of (more ∷ groups)
 
--- whether a cell begins a cluster after these
+-- whether a cell begins a new cluster after the clusters with these cells
 abbrev pub begins_after : List (List VisibleCell) → VisibleCell → Bool
 begins_after [] v = true
 begins_after (cells ∷ groups) v = begins_cluster (last_of (cells ∷ groups)) v

@@ -13,7 +13,7 @@ use Rattle.cell_edits.specs.VisibleCells.{VisibleCell, is_space, texts_joined, f
 abbrev pub unwrapped : Attributes → Attributes
 unwrapped attributes = record attributes { wrapped = false }
 
--- a cluster's attributes are its first cell's
+-- a cluster's attributes are its first cell's, less `wrapped`
 abbrev pub cluster_attributes : List VisibleCell → Attributes
 cluster_attributes [] = plain
 cluster_attributes (v ∷ cells) = unwrapped v.cell.attributes
@@ -22,7 +22,7 @@ cluster_attributes (v ∷ cells) = unwrapped v.cell.attributes
 abbrev pub ends_in_space : List VisibleCell → Bool
 ends_in_space cells = fold (λ _ v. is_space v) false cells
 
--- whether a cell is no space
+-- whether some cell is not a space
 abbrev pub holds_text : List VisibleCell → Bool
 holds_text cells = list_any (λ v. not (is_space v)) cells
 

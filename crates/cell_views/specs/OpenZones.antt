@@ -26,7 +26,7 @@ joined_zone (z ∷ y ∷ zs) v = z ∷ joined_zone (y ∷ zs) v
 abbrev pub last_kept : List VisibleCell → Option ℕ
 last_kept cells = fold (λ last v. if same_cell v.cell (blank_cell plain) then last else Some v.column) None cells
 
--- whether a column is none after the last one; every one is where there is no last one
+-- whether a column is kept: it is not after `last`; with `None` each column is kept
 abbrev pub is_kept_by : Option ℕ → ℕ → Bool
 is_kept_by None column = true
 is_kept_by (Some last) column = nat_le column last

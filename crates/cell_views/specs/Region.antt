@@ -16,7 +16,7 @@ region start end row = visible_from start (cut (end - start) (cut_prefix start r
 
 -- ---- what an edge at a column leaves of a cell that it cuts, and the column beside it at which none is cut
 
--- a blank in a column, with the attributes of another
+-- a blank in one column, with the attributes of column `other`
 abbrev pub half_at : ℕ → ℕ → Row → List VisibleCell
 half_at column other row = visible_at column space 1 (column_attributes (slice_index_or row other (blank plain))) ∷ []
 

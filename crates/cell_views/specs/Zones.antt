@@ -17,7 +17,7 @@ same_type Input Input = true
 same_type Prompt Prompt = true
 same_type _ _ = false
 
--- a column of a zone stops at 65,535
+-- a column as a zone has it: at most 65,535
 abbrev pub zone_column : ℕ → ℕ
 zone_column column = min column 65535
 

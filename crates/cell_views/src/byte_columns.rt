@@ -35,7 +35,7 @@ fn is_counted(count: usize, column: usize, width: u8, next: usize) -> bool
     column == next && column < usize::MAX
 }
 
-// The position follows, once for each byte of a text.
+// Appends the column and width of a cell, once for each byte of its text.
 fn push_copies(
     byte_columns: &mut Vec<ByteColumn>,
     text: &str,
@@ -88,7 +88,7 @@ impl ByteColumns {
         }
     }
 
-    // The bytes of a cell follow.
+    // Appends the column and width of a cell for each byte of its text.
     pub(crate) fn push(&mut self, text: &str, column: usize, width: u8) -> Result<(), AllocError>
         ensures columns { OnOk result
             (columns_in self.new ≡ columns_in self.old ++ replicate (length text.now) column) }

@@ -27,8 +27,8 @@ fn unwrapped(attrs: &CellAttributes) -> Result<CellAttributes, AllocError>
 }
 
 /// Neighbouring visible cells that are shown together. A cell begins a new cluster where its
-/// attributes differ from the cluster's, where it follows a space and is none, and where it is a
-/// space and follows one in a cluster that holds another text too. Whether the line goes on after
+/// attributes differ from the cluster's, where it is no space and follows a space, and where it is
+/// a space and follows a space in a cluster that holds another text too. Whether the line goes on after
 /// a cell makes no difference, and a cluster's attributes say that it doesn't.
 #[derive(Debug, Drop)]
 pub struct CellCluster {
@@ -158,8 +158,8 @@ fn grow_last(clusters: &mut Vec<CellCluster>, cell: &CellRef<'_>) -> Result<(), 
     clusters[last].grow(cell)
 }
 
-// Whether a cell, a space or not, begins a cluster after cells of the same attributes or not, the
-// last of which is a space or not, and which hold another text or not.
+// Whether a cell begins a cluster. `same`: it has the attributes of the last cluster; `space`: it is a
+// space; `ends_in_space`: the last cell of that cluster is a space; `holds_text`: one of its cells isn't.
 fn breaks(same: bool, space: bool, ends_in_space: bool, holds_text: bool) -> bool
     ensures { result ≡ (not same || not space && ends_in_space || space && ends_in_space && holds_text) }
 {
@@ -209,7 +209,7 @@ impl Clusters {
         }
     }
 
-    // The cell begins a cluster.
+    // Begins a cluster with the cell.
     fn begin(&mut self, cell: &CellRef<'_>) -> Result<(), AllocError>
         ensures { (groups : List (List VisibleCell)) → IsMadeOf groups self.old
             → begins_after groups (shown_by cell.now) ≡ true
@@ -223,7 +223,7 @@ impl Clusters {
         Ok(())
     }
 
-    // The cell joins the last cluster.
+    // Appends the cell to the last cluster.
     fn join(&mut self, cell: &CellRef<'_>) -> Result<(), AllocError>
         requires { 0 < vec_len self.old.made }
         ensures { (groups : List (List VisibleCell)) → IsMadeOf groups self.old

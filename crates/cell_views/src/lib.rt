@@ -12,7 +12,7 @@
 //! - `region`: the visible cells of a part of a row.
 //! - `stored_cells`: the stored form of a row.
 //! - `visible_cells`: the visible cells of a row.
-//! - `words`: the columns that a double click takes.
+//! - `words`: the columns that a double click selects.
 //! - `zones`: zones of a line: neighbouring cells of one semantic type.
 #![tactic(auto)]
 

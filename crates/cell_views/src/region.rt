@@ -29,7 +29,7 @@ struct Edge<'a> {
     half: Option<Half<'a>>,
 }
 
-// At and after a column.
+// The edge at which a region starts: `start` itself, or the column after it with the half at `start`.
 fn start_edge(row: &ClusteredRow, start: usize) -> Edge<'_>
     requires within { start < length row.now }
     requires small { start + 1 < 2 ^ 64 }
@@ -52,7 +52,7 @@ fn start_edge(row: &ClusteredRow, start: usize) -> Edge<'_>
     }
 }
 
-// At and before a column.
+// The edge at which a region ends: `end` itself, or the column before it with the half in that column.
 fn end_edge(row: &ClusteredRow, end: usize) -> Edge<'_>
     requires within { 0 < end }
     ensures column { result.column ≡ inner_end «end» row.now }
@@ -109,7 +109,7 @@ impl<'a> RegionIter<'a> {
         }
     }
 
-    // None.
+    // No cells.
     fn none() -> RegionIter<'a>
         ensures { region_left result ≡ [] }
     {

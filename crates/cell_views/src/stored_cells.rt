@@ -12,7 +12,7 @@ pub enum StoredCells<'a> {
     /// Read from the left: the cell stored after a wide one is ignored, and a wide cell with none
     /// after it is a blank with its attributes.
     Cells(&'a [Cell]),
-    /// The row as it is kept, with no cells.
+    /// A clustered row: one text and runs of equal attributes.
     Clustered(&'a ClusteredRow),
 }
 

@@ -102,7 +102,7 @@ impl<'a> VisibleCellIter<'a> {
     ghost use Rattle.cell_views.specs.Halves.{half_left};
     ghost use Rattle.cell_views.specs.StoredCells.{stored_row};
 
-    /// All of a row. `whole` is the law of rows that `StoredCells::len` says.
+    /// All visible cells of a row. `whole` is the law of rows that `StoredCells::len` states.
     #[inline(always)]
     pub fn new(stored: StoredCells<'a>) -> VisibleCellIter<'a>
         ensures value { cells_left result ≡ visible_from 0 (stored_row stored.entry) }

@@ -1,4 +1,4 @@
-//! The columns that a double click takes.
+//! The columns that a double click selects. A word cell is a visible cell whose text passes the test `is_word`.
 ghost use Rattle.std.specs.Prelude.{◌≡◌, ℕ, Bool, List, Some, None, length, nat_le, if◌then◌else◌};
 ghost use Rattle.std.specs.Option.{option_or};
 ghost use Rattle.cell_edits.specs.VisibleCells.{visible_cells};
@@ -10,7 +10,8 @@ use crate::stored_cells::StoredCells;
 use crate::visible_cells::VisibleCellIter;
 use cell_base::DoubleClickRange;
 
-// Where the words begin that are unbroken up to a cell, from where they begin before it.
+// The first column of the run of word cells up to a cell at `column`, from that of the run before the cell; `None`
+// where the cell is no word cell.
 fn begun(start: Option<usize>, is_word: bool, column: usize) -> Option<usize>
     ensures { result ≡ (if is_word then option_or start (Some column) else None) }
 {
@@ -21,7 +22,8 @@ fn begun(start: Option<usize>, is_word: bool, column: usize) -> Option<usize>
     }
 }
 
-// The first column of the first of the unbroken words from the last cell at or before a column back.
+// The first column of the run of word cells that ends with the last cell at or before column `at`; `at` where there is
+// no such run.
 fn word_start<F: Fn(&str) -> bool>(cells: StoredCells<'_>, at: usize, is_word: &F) -> usize
     requires { F.IsAlwaysCallable is_word.now }
     ensures { (test : List ℕ → Bool) → Answers F.Fn is_word.now test
@@ -37,8 +39,8 @@ fn word_start<F: Fn(&str) -> bool>(cells: StoredCells<'_>, at: usize, is_word: &
     start.unwrap_or(at)
 }
 
-// One past the first column of the last of the unbroken words from the first cell at or after a
-// column on.
+// One past the first column of the last cell in the run of word cells that begins with the first cell at or after
+// column `at`; `at` where there is no such run.
 fn word_end<F: Fn(&str) -> bool>(cells: StoredCells<'_>, at: usize, is_word: &F) -> usize
     requires { F.IsAlwaysCallable is_word.now }
     ensures { (test : List ℕ → Bool) → Answers F.Fn is_word.now test
@@ -64,7 +66,7 @@ fn reaches_end(cells: StoredCells<'_>, end: usize) -> bool
     end >= cells.len()
 }
 
-// Whether a range reaches to the end of a row that goes on after it.
+// Whether a range isn't empty and reaches the end of a row after which the line goes on.
 fn goes_on(cells: StoredCells<'_>, start: usize, end: usize) -> bool
     ensures { result ≡ goes_on (stored_row cells.entry) start end }
 {
@@ -84,7 +86,7 @@ fn word_range(cells: StoredCells<'_>, start: usize, end: usize) -> DoubleClickRa
     }
 }
 
-/// The words round a column; nothing at and past the end.
+/// The columns of the words around a column; an empty range at and past the end of the row.
 pub fn double_click_range<F: Fn(&str) -> bool>(
     cells: StoredCells<'_>,
     at: usize,

@@ -25,7 +25,7 @@ fn same_type(a: SemanticType, b: SemanticType) -> bool
     }
 }
 
-// A column of a zone stops at 65,535.
+// A column as a zone has it: at most 65,535.
 fn zone_column(column: usize) -> u16
     ensures { result ≡ zone_column column }
 {
@@ -58,7 +58,7 @@ fn last_kept(cells: StoredCells<'_>) -> Option<usize>
     last
 }
 
-/// Whether a column is kept where all after `last` go; where there is no last one, each is kept.
+/// Whether a column is kept where all columns after `last` are dropped; with `None` each column is kept.
 pub fn is_kept(last: Option<usize>, column: usize) -> bool
     ensures { result ≡ is_kept_by last column }
 {

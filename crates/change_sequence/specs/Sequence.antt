@@ -1,5 +1,5 @@
--- Where changes leave a cursor that doesn't scroll. Columns count from 0; rows count from where the first change stood,
--- and may be negative.
+-- Where changes leave a cursor that doesn't scroll. Columns count from 0; rows count from the cursor's row before the
+-- first change, and may be negative.
 use Rattle.std.specs.Prelude.{◌≡◌, ℕ, ◌+◌, ◌-◌, ◌%◌, ◌<◌, min, ℤ, pos, negsuc, ◌+ℤ◌, ◌-ℤ◌, neg_ℤ, Bool, true, false}
 use Rattle.std.specs.Prelude.{◌&&◌, nat_lt, nat_le, ◌^◌, List, [], ◌∷◌, ◌++◌, fold, length, take, if◌then◌else◌}
 use Rattle.std.specs.List.{flat_map}
@@ -10,7 +10,7 @@ use Rattle.screen_change.specs.ChangeValue.{ChangeValue, Text, ClearScreen, Curs
 use Rattle.screen_change.specs.ChangeValue.{ScrollRegionDown}
 use Rattle.screen_effects.specs.Strokes.{Stroke, CarriageReturn, LineFeed, Cluster, TextPart, part_strokes, strokes}
 
--- a column and a row; sums of rows stay in 64 bits
+-- a column and a row; sums of rows are limited to 64 bits
 pub record CellPosition : Type 0 where
   pub column : ℕ
   pub row : ℤ
@@ -21,11 +21,12 @@ home = record { column = 0; row = pos 0 }
 abbrev pub next_row : ℤ → ℤ
 next_row row = saturate_signed w64 (row +ℤ pos 1)
 
--- the columns of a cluster: on one column a wide one is a space
+-- the columns that a cluster takes: on a screen of one column a wide cluster is a space
 abbrev pub columns_taken : (List ℕ → ℕ) → ℕ → List ℕ → ℕ
 columns_taken width_of columns cluster = if nat_lt 1 columns && nat_le 2 (width_of cluster) then 2 else 1
 
--- as on a screen of `columns` columns: a cluster that doesn't fit goes to the start of the next row
+-- the position after a part of a text, as on a screen of `columns` columns: a cluster that doesn't fit goes to the
+-- start of the next row
 abbrev pub stroke_moved : (List ℕ → ℕ) → ℕ → CellPosition → Stroke → CellPosition
 stroke_moved width_of columns position CarriageReturn = record position { column = 0 }
 stroke_moved width_of columns position LineFeed = record position { row = next_row position.row }
@@ -34,7 +35,7 @@ stroke_moved width_of columns position (Cluster cluster) =
     if nat_lt (columns - position.column) taken then record { column = taken; row = next_row position.row }
     else record position { column = position.column + taken }
 
--- the parts of a text in turn
+-- the position after the parts of a text
 abbrev pub parts_moved : (List ℕ → ℕ) → ℕ → CellPosition → List TextPart → CellPosition
 parts_moved width_of columns position parts =
     fold (stroke_moved width_of columns) position (flat_map part_strokes parts)
@@ -50,14 +51,14 @@ most_unsigned = 2 ^ 64 - 1
 abbrev pub most_signed : ℕ
 most_signed = 2 ^ 63 - 1
 
--- the position from the start, or from the end
+-- the column that a position names: counted from the start, from the end, or from the column `from`
 abbrev pub column_moved : ℕ → ℕ → Position → ℕ
 column_moved columns from (Absolute at) = at % columns
 column_moved columns from (EndRelative back) = (columns - back) % columns
 column_moved columns from (Relative (pos forward)) = min (from + forward) most_unsigned % columns
 column_moved columns from (Relative (negsuc less)) = (from - (less + 1)) % columns
 
--- the rest of a division, with the sign of what is divided
+-- the remainder of a division, with the sign of the dividend
 abbrev pub signed_rest : ℤ → ℕ → ℤ
 signed_rest (pos n) count = pos (n % count)
 signed_rest (negsuc less) count = neg_ℤ (pos ((less + 1) % count))
@@ -111,14 +112,14 @@ with_change width_of s change =
 abbrev pub with_changes : {W : Type 0} → (List ℕ → ℕ) → Sequence W → List ChangeValue → Sequence W
 with_changes width_of s changes = fold (with_change width_of) s changes
 
--- the first of some changes were added, but not all
+-- the first of the changes were added, but not all
 pub record HasSome {W : Type 0} (width_of : List ℕ → ℕ) (before after : Sequence W) (changes : List ChangeValue) : Type
     0 where
   pub count : ℕ
   pub fewer : count < length changes
   pub added : after ≡ with_changes width_of before (take count changes)
 
--- from one position to another, as far as numbers of 64 bits go
+-- the relative cursor position that leads from one position to another, each distance limited to 64 bits
 abbrev pub move_to : CellPosition → ℕ → ℤ → ChangeValue
 move_to position column row =
     CursorPosition (Relative (saturate_signed w64 (pos column -ℤ pos position.column)))

@@ -13,7 +13,7 @@ use unicode_segmentation::UnicodeSegmentation;
 /// A column and a row.
 pub(crate) type CellPosition = (usize, isize);
 
-// After a cluster.
+// The position after a cluster.
 fn after_cluster<W: Widths>(
     widths: &W,
     columns: usize,
@@ -39,7 +39,7 @@ fn after_cluster<W: Widths>(
     }
 }
 
-// After the clusters of a text.
+// The position after the clusters of a text.
 #[tactic(auto, using(cell_base::proofs::PlainClusters::clusters_are))]
 fn after_run<W: Widths>(
     widths: &W,
@@ -60,7 +60,7 @@ fn after_run<W: Widths>(
     position
 }
 
-// After a control in a text.
+// The position after a control in a text.
 fn after_control<W: Widths>(
     widths: &W,
     columns: usize,
@@ -118,14 +118,14 @@ pub(crate) fn column_of(columns: usize, from: usize, position: Position) -> usiz
     }
 }
 
-/// A count; past `isize::MAX` that.
+/// A row as an `isize`, at most `isize::MAX`.
 pub(crate) fn as_row(row: usize) -> isize
     ensures { result ≡ pos (min row most_signed) }
 {
     isize::try_from(row).unwrap_or(isize::MAX)
 }
 
-// The rest of a row's division by how many rows there are, with its sign.
+// The remainder of a row divided by the count of rows, with the row's sign.
 fn signed_rest(row: isize, rows: usize) -> isize
     requires { 0 < rows }
     ensures { result ≡ signed_rest row rows }

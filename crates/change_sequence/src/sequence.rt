@@ -121,14 +121,14 @@ impl<W: Widths + Drop> ChangeSequence<W> {
         (self.column, self.row)
     }
 
-    /// How far apart the least and the greatest are of row 0 and the rows after texts and positions.
+    /// The distance between the least and the greatest of row 0 and the rows after texts and cursor positions.
     pub fn render_height(&self) -> usize
         ensures { result ≡ unsigned_abs (self.now.highest -ℤ self.now.lowest) }
     {
         self.highest.abs_diff(self.lowest)
     }
 
-    /// Adds a change; a text moves the cursor as on a screen, but that nothing scrolls. A refused call
+    /// Adds a change; a text moves the cursor as on a screen, except that nothing scrolls. A refused call
     /// changes nothing, and drops the change.
     pub fn add<C: Into<Change> + Drop>(&mut self, change: C) -> Result<(), AllocError>
         ensures added { OnOk result
@@ -157,7 +157,7 @@ impl<W: Widths + Drop> ChangeSequence<W> {
         Ok(())
     }
 
-    /// Adds changes in turn. Where memory is refused the ones before are added.
+    /// Adds changes in turn. Where memory is refused, the changes before the refused one are added.
     pub fn add_changes(&mut self, changes: Vec<Change>) -> Result<(), AllocError>
         ensures added { OnOk result
             (self.new ≡ with_changes (W.width_of self.old.widths) self.old (map value_of changes.items)) }
@@ -181,7 +181,8 @@ impl<W: Widths + Drop> ChangeSequence<W> {
         Ok(())
     }
 
-    /// Adds the position that leads from the current position to another one, by how far it is away.
+    /// Adds the relative cursor position that leads from the current position to `position`, a column and a
+    /// row. Each distance is limited to an `isize`.
     pub fn move_to(&mut self, position: (usize, isize)) -> Result<(), AllocError>
         ensures added { OnOk result
             (self.new ≡ with_change (W.width_of self.old.widths) self.old
@@ -217,7 +218,7 @@ impl<W: Widths + Copy + Drop> ChangeSequence<W> {
     }
 }
 
-// How far it is from a column to another one, as far as an `isize` goes.
+// The signed distance from one column to another, limited to an `isize`.
 fn way(from: usize, to: usize) -> isize
     ensures { result ≡ saturate_signed w64 (pos to -ℤ pos from) }
 {

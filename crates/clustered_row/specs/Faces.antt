@@ -21,17 +21,17 @@ row_of [] attributes = []
 row_of (face ∷ faces) [] = []
 row_of (face ∷ faces) (first ∷ attributes) = column face first ∷ row_of faces attributes
 
--- the faces of one text
+-- the faces of a cell's text: two where it is wide
 abbrev pub cell_faces : Bool → List ℕ → List Face
 cell_faces true text = Left text ∷ Right ∷ []
 cell_faces false text = Own text ∷ []
 
--- the first of them
+-- the first face of a text
 abbrev pub first_face : Bool → List ℕ → Face
 first_face true text = Left text
 first_face false text = Own text
 
--- one for each byte
+-- a face for each byte
 abbrev pub plain_faces : List ℕ → List Face
 plain_faces bytes = map (λ byte. Own (byte ∷ [])) bytes
 

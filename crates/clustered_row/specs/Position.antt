@@ -10,18 +10,18 @@ pub record IsPosition (sizes : List CellSize) (position : Position) : Type 0 whe
   pub bytes : position.bytes ≡ bytes_of (take position.index sizes)
   pub columns : position.columns ≡ columns_of (take position.index sizes)
 
--- a column is the second one of the wide cell that begins there
+-- column `at` is the second one of the wide cell that begins at `position`
 pub record IsSplit (sizes : List CellSize) (position : Position) (at : ℕ) (default : CellSize) : Type 0 where
   pub within : position.index < length sizes
   pub wide : (slice_index_or sizes position.index default).is_wide ≡ true
   pub column : at ≡ position.columns + 1
 
--- each position after at most `count` cells stays one
+-- each position after at most `count` cells of the first list is also one of the second list
 abbrev pub KeepsPositions : ℕ → List CellSize → List CellSize → Type 0
 KeepsPositions count sizes changed = (position : Position) → position.index ≤ count → IsPosition sizes position
     → IsPosition changed position
 
--- after the cell at a position, which is a plain one, is a position
+-- the cell at a position is a plain one: one byte and one column further is the next position
 abbrev pub HasPlainCell : List CellSize → Position → Type 0
 HasPlainCell sizes position = (next : Position) → next.index ≡ position.index + 1 → next.bytes ≡ position.bytes + 1
     → next.columns ≡ position.columns + 1 → IsPosition sizes next

@@ -3,7 +3,7 @@ use Rattle.std.specs.Prelude.{◌-◌, ◌≤◌, ◌++◌, length, replicate}
 use Rattle.cell_base.specs.Row.{Row, blank}
 use Rattle.clustered_row.specs.declared.row.ClusteredRow.TheInside.{Inside}
 
--- the columns that were written, and blanks with the same attributes after them
+-- the columns that were written, and after them blanks that all have the attributes `rest`
 abbrev pub row_shown : Inside → Row
 row_shown r = r.columns ++ replicate (r.width - length r.columns) (blank r.rest)
 

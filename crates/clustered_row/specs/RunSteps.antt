@@ -9,11 +9,11 @@ use Rattle.clustered_row.specs.Runs.{spread, AreMaximal}
 abbrev pub counted : Run → ℕ → Run
 counted run count = record { count = count; attributes = run.attributes }
 
--- a run of the list
+-- `run` is the run at index `at`
 abbrev pub IsAt : List Run → ℕ → Run → Type 0
 IsAt runs at run = run ≡ slice_index_or runs at run
 
--- the last one
+-- `last` is the last run
 abbrev pub IsLast : List Run → Run → Type 0
 IsLast runs last = (0 < length runs) × IsAt runs (length runs - 1) last
 

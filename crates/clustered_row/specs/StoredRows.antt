@@ -6,8 +6,8 @@ use Rattle.clustered_row.specs.Faces.{row_of}
 use Rattle.clustered_row.specs.Runs.{spread, AreMaximal}
 use Rattle.clustered_row.specs.Sizes.{faces_of, is_cut, ends_plain}
 
--- one text that is cut into cells by their sizes, runs of attributes for their columns, and blanks with the same
--- attributes after these
+-- one text that is cut into cells by their sizes, runs of attributes for their columns, and after these blanks that all
+-- have the attributes `rest`
 pub record IsStored (stored : StoredRow) (row : Row) : Type 0 where
   -- the row shows these
   pub shows : row

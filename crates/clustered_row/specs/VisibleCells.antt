@@ -9,7 +9,7 @@ use Rattle.clustered_row.specs.Sizes.{width_of}
 use Rattle.clustered_row.specs.VisibleRuns.{attributes_left}
 use Rattle.clustered_row.specs.VisibleTexts.{faces_left}
 
--- the visible cell that is borrowed
+-- the `VisibleCell` of a borrowed cell
 abbrev pub shown_by : ClusteredCell → VisibleCell
 shown_by cell = visible_at cell.column cell.text.now (width_of cell.is_wide) cell.attributes.now
 
@@ -18,7 +18,7 @@ abbrev pub row_left : ClusteredCells → Row
 row_left cells =
     row_of (faces_left cells.texts) (attributes_left cells.runs) ++ replicate cells.blanks (blank cells.rest.now)
 
--- the column of the first of them
+-- the first column of the next cell
 abbrev pub next_column : ClusteredCells → ℕ
 next_column cells = cells.column
 

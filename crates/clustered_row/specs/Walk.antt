@@ -15,8 +15,8 @@ cells_of text (size ∷ sizes) attributes =
     record { text = take size.len text; width = width_of size.is_wide; attributes = attributes }
     ∷ cells_of (drop size.len text) sizes attributes
 
--- Cells with these sizes, which take `count` columns, are at the start of a text and fit in `room` columns. Where they
--- are set on a row, the rest of the text leads to the same end as the whole.
+-- Cells with these sizes, which take `count` columns, are at the start of a text and fit in `room` columns. After they
+-- are set on a row, setting the rest of the text has the same result as setting the whole text.
 pub record IsWalked (columns_for : List ℕ → ℕ) (room : ℕ) (text : List ℕ) (sizes : List CellSize) (count : ℕ)
     (rest : List ℕ) : Type 0 where
   pub prefix : List ℕ

@@ -4,14 +4,14 @@ ghost use Rattle.std.specs.Prelude.{◌≡◌, ◌≤◌};
 /// How many bytes a cell's text has, and whether it takes two columns.
 #[derive(Debug, Clone, Copy)]
 pub struct CellSize {
-    /// At least 1.
+    /// The number of bytes, at least 1.
     pub len: usize,
-    /// Whether it takes two columns.
+    /// Whether the cell takes two columns.
     pub is_wide: bool,
     pub ghost some: { 1 ≤ len },
 }
 
-/// That of a plain cell.
+/// The size of a plain cell: one byte in one column.
 pub const PLAIN: CellSize = CellSize {
     len: 1,
     is_wide: false,

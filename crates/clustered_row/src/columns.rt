@@ -56,7 +56,7 @@ impl Columns {
         self.runs.len()
     }
 
-    // All columns go; their memory stays.
+    // Removes all columns, and keeps their memory.
     pub(crate) fn clear(&mut self)
         ensures { self.new ≡ [] }
     {
@@ -64,7 +64,7 @@ impl Columns {
         self.runs.clear();
     }
 
-    // The columns from one on go.
+    // Drops the columns from `at` on.
     pub(crate) fn cut(&mut self, at: usize)
         requires { at ≤ length self.old }
         ensures { self.new ≡ closed_end (take at self.old) }
@@ -105,7 +105,7 @@ impl Columns {
         Ok(())
     }
 
-    // A column for each byte of printable ASCII follows.
+    // Appends a column for each byte of a text in printable ASCII.
     #[inline(never)]
     pub(crate) fn push_plain(
         &mut self,
@@ -124,7 +124,7 @@ impl Columns {
         Ok(())
     }
 
-    // Cells follow, given by their text, their sizes and how many columns they take.
+    // Appends cells, given by their text, their sizes and how many columns they take.
     pub(crate) fn push(
         &mut self,
         text: &str,
@@ -154,8 +154,8 @@ impl Columns {
         self.texts.plain_from()
     }
 
-    // Sets a column to each byte of printable ASCII, from `at` on. Returns whether that was done, which it is where the
-    // cells from `at` on are kept as such characters.
+    // Sets the columns from `at` on to the bytes of a text in printable ASCII. Returns whether this was done: it is
+    // where all cells from `at` on are stored as plain cells.
     #[inline(always)]
     fn overwrite(
         &mut self,
@@ -207,7 +207,7 @@ impl Columns {
         Ok(())
     }
 
-    // A column for each byte of printable ASCII from one on. The list is written over.
+    // Sets the columns from `at` on to the bytes of a text in printable ASCII. It may overwrite `sizes`, a buffer.
     pub(crate) fn set_plain(
         &mut self,
         at: usize,

@@ -147,7 +147,7 @@ impl CutText {
         find(&self.sizes, from, at)
     }
 
-    // All cells go; the memory stays.
+    // Removes all cells, and keeps the memory.
     pub(crate) fn clear(&mut self)
         ensures faces { shown self.new ≡ [] }
         ensures sizes { self.new.sizes.items ≡ [] }
@@ -177,7 +177,7 @@ impl CutText {
         Ok(())
     }
 
-    // A plain cell for each byte follows.
+    // Appends a plain cell for each byte.
     #[inline(always)]
     pub(crate) fn push_plain(&mut self, text: &str) -> Result<(), AllocError>
         requires { list_all is_printable text.now ≡ true }
@@ -229,7 +229,7 @@ impl CutText {
         put(&mut self.text, from, text.as_bytes());
     }
 
-    // The columns from `at` on go. Nothing is refused: a wide cell that is cut gives its memory to the space.
+    // Drops the columns from `at` on. Nothing is refused: a wide cell that is cut gives its memory to the space.
     pub(crate) fn truncate(&mut self, at: usize)
         requires { at ≤ length (shown self.old) }
         ensures faces { shown self.new ≡ closed_end (take at (shown self.old)) }
@@ -245,7 +245,7 @@ impl CutText {
         }
     }
 
-    // The columns from `at` on go, where the last one that stays is among the cells whose sizes are kept.
+    // Drops the columns from `at` on, where the first of them belongs to a cell whose size is stored.
     fn truncate_sized(&mut self, at: usize)
         requires { at < self.old.sized_columns }
         ensures faces { shown self.new ≡ closed_end (take at (shown self.old)) }
@@ -263,7 +263,7 @@ impl CutText {
         }
     }
 
-    // The sizes of plain cells are kept up to a column, for which there is room.
+    // Stores the sizes of plain cells up to column `to`; there is room for them.
     #[inline(always)]
     fn cover(&mut self, to: usize)
         requires within { to ≤ length (shown self.old) }
@@ -278,7 +278,7 @@ impl CutText {
         }
     }
 
-    // Keeps the sizes of `count` more plain cells.
+    // Stores the sizes of `count` more plain cells.
     fn cover_more(&mut self, count: usize)
         requires within { self.old.sized_bytes + count ≤ length self.old.text.items }
         requires room { count ≤ sizes_left self.old }
@@ -380,7 +380,7 @@ impl CutText {
         }
     }
 
-    // The columns from `from` on and before `to` show other cells.
+    // Replaces the cells of the columns from `from` on and before `to`.
     pub(crate) fn splice(&mut self, from: usize, to: usize, text: &str, sizes: &[CellSize])
         requires sizes { AreSizes text.now sizes.now }
         requires columns { from + columns_of sizes.now ≡ to }
@@ -422,7 +422,7 @@ impl CutText {
         self.sized_columns -= 1;
     }
 
-    // The sizes of plain cells at the end go.
+    // Drops the sizes of the plain cells at the end.
     pub(crate) fn trim(&mut self)
         ensures trimmed { ends_plain self.new.sizes.items ≡ false }
         ensures faces { shown self.new ≡ shown self.old }

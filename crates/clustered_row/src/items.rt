@@ -47,7 +47,7 @@ pub(crate) fn push_bytes(items: &mut Vec<u8>, bytes: &[u8]) -> Result<(), AllocE
     Ok(())
 }
 
-// Moves the items from `from` on to `to`, which is further after, where there is room for them.
+// Moves the items from `from` on up to `to`, which is not before `from`; there is room for them.
 fn move_up<T: Copy>(items: &mut Vec<T>, from: usize, to: usize, filler: T)
     requires order { from ≤ to }
     requires within { from ≤ vec_len items.old }
@@ -68,7 +68,7 @@ fn move_up<T: Copy>(items: &mut Vec<T>, from: usize, to: usize, filler: T)
     items.copy_within(from..len, to);
 }
 
-// Moves the items from `from` on to `to`, which is before it.
+// Moves the items from `from` on down to `to`, which is not after `from`.
 fn move_down<T: Copy>(items: &mut Vec<T>, from: usize, to: usize)
     requires order { to ≤ from }
     requires within { from ≤ vec_len items.old }

@@ -23,7 +23,7 @@ pub struct ClusteredRow {
     pub(crate) columns: Columns,
     pub(crate) width: usize,
     pub(crate) rest: CellAttributes,
-    // Of cells that are being set.
+    // A buffer for the sizes of cells that are being set.
     pub(crate) sizes: Vec<CellSize>,
 }
 
@@ -63,7 +63,7 @@ impl ClusteredRow {
         self.width
     }
 
-    /// All columns become plain blanks. The memory of what they showed stays.
+    /// Makes all columns plain blanks, and keeps the memory of their cells.
     pub fn clear(&mut self)
         ensures { self.new ≡ plain_row (length self.old) }
     {
@@ -71,7 +71,7 @@ impl ClusteredRow {
         self.rest = CellAttributes::blank();
     }
 
-    /// The columns from one on become blanks with these attributes.
+    /// Makes the columns from `at` on blanks with these attributes.
     pub fn set_blanks_from(&mut self, at: usize, attrs: &CellAttributes) -> Result<(), AllocError>
         requires { at ≤ length self.old }
         ensures len { length self.new ≡ length self.old }
@@ -84,7 +84,7 @@ impl ClusteredRow {
         Ok(())
     }
 
-    /// Printable ASCII characters (20h to 7Eh) take a column each from one on.
+    /// Sets the columns from `at` on to the printable ASCII characters (20h to 7Eh) of a text, a column each.
     #[inline(always)]
     pub fn set_plain(
         &mut self,
@@ -107,7 +107,7 @@ impl ClusteredRow {
         Ok(())
     }
 
-    // They take their columns from any one on, not alone after the last that was written.
+    // As `set_plain`, from any column on, not only from the one after the last written column.
     #[inline(never)]
     fn set_plain_elsewhere(
         &mut self,
@@ -132,7 +132,7 @@ impl ClusteredRow {
         Ok(())
     }
 
-    // Cells take their columns from one on, given by their text, their sizes and how many columns they take.
+    // Sets cells from column `at` on, given by their text, their sizes and how many columns they take.
     pub(crate) fn set(
         &mut self,
         at: usize,
@@ -158,7 +158,7 @@ impl ClusteredRow {
         Ok(())
     }
 
-    /// The row becomes so wide: columns at its end go, or plain blanks come.
+    /// Sets the width of the row: drops columns at its end, or appends plain blanks.
     pub fn resize(&mut self, width: usize) -> Result<(), AllocError>
         ensures { OnOk result (self.new ≡ resized width self.old) }
     {

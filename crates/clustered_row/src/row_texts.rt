@@ -16,7 +16,7 @@ use cell_base::{CellAttributes, Widths};
 use std::alloc::AllocError;
 use text_clusters::split_first_cluster;
 
-// The most spaces that are set at once.
+// As many spaces as are set at once: 64.
 const SPACES: &str = "                                                                ";
 
 // Whether a cell holds a space in place of this text.
@@ -38,7 +38,8 @@ pub(crate) fn spaces(count: usize) -> &'static str
 }
 
 impl ClusteredRow {
-    /// Printable ASCII characters (20h to 7Eh) take a column each from one on; where there are none nothing changes.
+    /// Sets the columns from `at` on to the printable ASCII characters (20h to 7Eh) of a text, a column each. The empty
+    /// text changes nothing.
     #[inline(always)]
     pub fn set_ascii_text(
         &mut self,
@@ -87,7 +88,7 @@ impl ClusteredRow {
         Ok(())
     }
 
-    /// Blanks take the columns of a range.
+    /// Sets the columns of a range to blanks.
     pub fn set_blanks(
         &mut self,
         start: usize,

@@ -4,9 +4,9 @@ use cell_base::CellAttributes;
 /// Columns side by side with equal attributes.
 #[derive(Debug, Drop)]
 pub struct Run {
-    /// At least 1.
+    /// The number of columns, at least 1.
     pub count: u32,
-    /// Of each of these columns.
+    /// The attributes of each of these columns.
     pub attributes: CellAttributes,
 }
 

@@ -195,7 +195,7 @@ fn shorten(runs: &mut Vec<Run>, by: usize) -> usize
     count as usize
 }
 
-/// Drops the columns from one on.
+/// Drops the columns from `at` on.
 pub(crate) fn cut(runs: &mut Vec<Run>, columns: usize, at: usize)
     requires columns { columns ≡ length (spread runs.old.items) }
     requires within { at ≤ columns }
@@ -305,7 +305,8 @@ fn begin_at(runs: &mut Vec<Run>, position: Position)
     set_count(runs, position.index, count - position.offset as u32);
 }
 
-// Joins the run before `kept` to `run`, where it has its attributes. Returns how many runs then remain before.
+// Joins the run before index `kept` to `run`, where both have the same attributes. Returns how many runs remain before
+// `run`.
 fn join_before(runs: &[Run], kept: usize, run: &mut Run) -> usize
     requires within { kept ≤ length runs.now }
     requires some { 0 < run.old.count }
@@ -328,7 +329,8 @@ fn join_before(runs: &[Run], kept: usize, run: &mut Run) -> usize
     kept - 1
 }
 
-// Joins the run at `from` to `run`, where it has its attributes. Returns where the remaining runs begin.
+// Joins the run at index `from` to `run`, where both have the same attributes. Returns the index at which the remaining
+// runs begin.
 fn join_after(runs: &[Run], from: usize, run: &mut Run) -> usize
     requires within { from ≤ length runs.now }
     requires some { 0 < run.old.count }
@@ -370,7 +372,7 @@ fn put(runs: &mut Vec<Run>, at: usize, run: Run)
     runs[at] = run;
 }
 
-// Drops the runs from one on, before another.
+// Drops the runs from index `from` on and before index `to`.
 fn remove(runs: &mut Vec<Run>, from: usize, to: usize)
     requires order { from ≤ to }
     requires within { to ≤ length runs.old.items }
@@ -386,7 +388,7 @@ fn remove(runs: &mut Vec<Run>, from: usize, to: usize)
     runs.truncate(from + after);
 }
 
-// Replaces the runs from `from` on and before `to`.
+// Replaces the runs from index `from` on and before index `to` by `run`.
 fn replace(runs: &mut Vec<Run>, from: usize, to: usize, run: Run)
     requires order { from ≤ to }
     requires within { to ≤ length runs.old.items }

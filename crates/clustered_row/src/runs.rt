@@ -9,7 +9,7 @@ use cell_base::CellAttributes;
 use std::alloc::{AllocError, Global};
 use std::marker::Model;
 
-// The columns that one run can count.
+// The most columns that one run can count.
 const FULL: usize = u32::MAX as usize;
 
 /// The attributes of columns, which count from 0, kept as runs of equal attributes.
@@ -106,7 +106,7 @@ impl Runs {
         Ok(())
     }
 
-    /// Drops the columns from one on.
+    /// Drops the columns from `at` on.
     pub fn cut(&mut self, at: usize)
         ensures { self.new ≡ take at self.old }
     {

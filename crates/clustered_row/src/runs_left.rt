@@ -8,7 +8,7 @@ use crate::run_steps;
 use crate::runs::Runs;
 use cell_base::CellAttributes;
 
-// The attributes of the columns of `runs`, except the first `used`; the first run has more.
+// The attributes of the columns of `runs`, except the first `used`; the first run has more than `used`.
 #[derive(Drop)]
 pub(crate) struct RunsLeft<'a> {
     pub(crate) runs: &'a [Run],
@@ -86,7 +86,7 @@ impl Runs {
         }
     }
 
-    // The columns from one on.
+    // The columns from `column` on.
     pub(crate) fn left_from(&self, column: usize) -> RunsLeft<'_>
         requires { column ≤ length self.now }
         ensures { attributes_left result ≡ drop column self.now }

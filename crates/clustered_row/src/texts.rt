@@ -76,7 +76,7 @@ impl Texts {
         self.cut.cell_at(column)
     }
 
-    /// All cells go; the memory stays.
+    /// Removes all cells, and keeps the memory.
     pub fn clear(&mut self)
         ensures faces { faces self.new ≡ [] }
         ensures room { room self.old ≤ room self.new }
@@ -100,7 +100,7 @@ impl Texts {
         Ok(())
     }
 
-    /// A cell for each byte of printable ASCII follows.
+    /// Appends a cell for each byte of a text in printable ASCII.
     #[inline(always)]
     pub fn push_plain(&mut self, text: &str) -> Result<(), AllocError>
         requires { list_all is_printable text.now ≡ true }
@@ -150,7 +150,7 @@ impl Texts {
         Ok(())
     }
 
-    /// A cell for each byte of printable ASCII from a column on, where each cell is a plain one.
+    /// Sets the columns from `at` on, whose cells are all plain, to the bytes of a text in printable ASCII.
     #[inline(always)]
     pub fn set_plain(&mut self, at: usize, text: &str)
         requires text { list_all is_printable text.now ≡ true }
@@ -177,9 +177,9 @@ impl Texts {
         self.cut.trim();
     }
 
-    /// The columns from `from` on and before `to` show other cells, given by their text and sizes. A wide cell of
-    /// which half is left becomes a space. Nothing is refused where room was made for three bytes and three sizes more
-    /// than are given, and for the size of each column before `to` that isn't kept.
+    /// Replaces the cells of the columns from `from` on and before `to` by cells given by their text and sizes. A wide
+    /// cell of which half is left becomes a space. Nothing is refused where room was made for three bytes and three
+    /// sizes more than are given, and for the size of each column before `to` that isn't kept.
     pub fn splice(
         &mut self,
         from: usize,

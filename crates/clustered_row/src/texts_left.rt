@@ -22,7 +22,7 @@ pub(crate) struct TextsLeft<'a> {
     ghost parts: { is_cut text.now sizes.now ≡ true },
 }
 
-// How many sizes of plain cells are first.
+// How many sizes at the start are those of plain cells.
 fn plain_sizes(sizes: &[CellSize]) -> usize
     ensures { result ≡ prefix_len is_plain sizes.now }
 {

@@ -54,7 +54,7 @@ pub struct ClusteredCells<'a> {
     // The number of blanks after these, which all have the attributes `rest`.
     pub(crate) blanks: usize,
     pub(crate) rest: &'a CellAttributes,
-    // The first one of the next cell.
+    // The first column of the next cell.
     pub(crate) column: usize,
     ghost covered: { length (faces_left texts) ≤ length (attributes_left runs) },
     ghost small: { column + (length (faces_left texts) + blanks) < 2 ^ 64 },
@@ -144,8 +144,8 @@ impl ClusteredRow {
         }
     }
 
-    /// The visible cells from a column on and before another; neither may be the second one of a wide cell, which
-    /// `is_split` tells.
+    /// The visible cells from a column on and before another; neither column may be the second one of a wide cell (see
+    /// `is_split`).
     pub fn cells_between(&self, start: usize, stop: usize) -> ClusteredCells<'_>
         requires order { start ≤ stop }
         requires within { stop ≤ length self.now }

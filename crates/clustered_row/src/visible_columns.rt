@@ -63,7 +63,7 @@ impl Columns {
 }
 
 impl ClusteredRow {
-    /// Whether a column is the second one of a wide text. `whole` is the law of rows that `len` says.
+    /// Whether a column is the second one of a wide text. `whole` is the law of rows that `len` states.
     pub fn is_split(&self, column: usize) -> bool
         ensures value { result ≡ is_split column self.now }
         ensures whole { IsWhole self.now }
@@ -100,7 +100,7 @@ impl ClusteredRow {
         })
     }
 
-    /// Whether the row goes on after its last cell; not where there is none.
+    /// Whether the line goes on in the next row after the last cell of this one; `false` where there is no cell.
     pub fn ends_wrapped(&self) -> bool
         ensures { result ≡ ends_wrapped (visible_cells self.now) }
     {

@@ -51,7 +51,7 @@ group_of sgr_groups final ts = option_map (λ found. (sgr found.0, found.1)) (sg
 group_of private_mode_groups final ts = mode_group (private_mode_reading final) ts
 group_of standard_mode_groups final ts = mode_group (mode_reading final) ts
 
--- the actions of a list whose first k tokens are used up: group after group, and what no group fits as it is
+-- the actions of a list whose first k tokens are used up: group after group, and the rest that begins no group
 abbrev pub groups_from
     : (List CsiParam → Option (Action × ℕ)) → (List CsiParam → Action) → ℕ → List CsiParam → List Action
 groups_from group rest k [] = []
@@ -86,7 +86,7 @@ modes_or modes truncated final ts whole =
     if is_some (group_of modes final ts) then groups modes truncated final ts
     else unspecified whole truncated final ∷ []
 
--- one spelling that covers the whole list
+-- the one action that a whole list encodes, if there is one
 abbrev pub single_reading : ℕ → List CsiParam → Option Action
 single_reading final ts =
     option_or (option_map cursor (cursor_reading final ts))
@@ -96,13 +96,13 @@ abbrev pub single_or : Bool → ℕ → List CsiParam → List Action
 single_or truncated final ts =
     option_map_or (λ known. known ∷ []) (single_reading final ts) (unspecified ts truncated final ∷ [])
 
--- without a `?`: groups under h and l, else one spelling
+-- a list without a `?`: modes under h and l, else one action for the whole list
 abbrev pub standard_reading : Bool → ℕ → List CsiParam → List Action
 standard_reading truncated final ts =
     if final == 104 || final == 108 then modes_or standard_mode_groups truncated final ts ts
     else single_or truncated final ts
 
--- under finals other than m: after a `?` private modes
+-- a list under a final byte other than m: private modes after a `?`, else as without a `?`
 abbrev pub other_reading : Bool → ℕ → List CsiParam → List Action
 other_reading truncated final (P b ∷ ts) =
     if b == 63 then modes_or private_mode_groups truncated final ts (P b ∷ ts)

@@ -13,7 +13,7 @@ is_crackable (P b) = b == 59
 abbrev pub all_crackable : List CsiParam → Bool
 all_crackable ts = list_all is_crackable ts
 
--- the entries of a list: a number is one, a `;` right after a number separates, any other is an absent one
+-- the entries of a list: a number is an entry, a `;` right after a number separates, any other `;` is an absent entry
 abbrev pub entries : Bool → List CsiParam → List (Option CsiParam)
 entries after_number [] = []
 entries after_number (Integer z ∷ ts) = Some (Integer z) ∷ entries true ts

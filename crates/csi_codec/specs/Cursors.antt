@@ -1,4 +1,4 @@
--- Cursor sequences: the spellings by final byte, and what is written.
+-- Cursor sequences: how they are read, by final byte, and how they are written.
 use Rattle.std.specs.Prelude.{ℕ, ℤ, List, [], ◌∷◌, Option, ◌++◌, Some, None, if◌then◌else◌, option_map}
 use Rattle.csi_codec.specs.Parameters.{is_number, coordinate_pair, one_slot, slot_and_space, named_by}
 use Rattle.csi_codec.specs.Parameters.{named_slot, word_max}
@@ -69,7 +69,7 @@ tabulation_control_named z =
 
 -- ---- Writing
 
--- the parameters of each, and its final byte
+-- the parameters and the final byte of each sequence
 abbrev pub cursor_slots : Cursor → Slots × ℕ
 cursor_slots (cursor.Up n) = (counted n, 65)  -- A: CUU, ECMA-48 8.3.22
 cursor_slots (cursor.Down n) = (counted n, 66)  -- B: CUD, 8.3.19
@@ -104,7 +104,7 @@ cursor_spelling c = slots_spelling (cursor_slots c)
 
 -- ---- Reading
 
--- nothing saves the cursor; else two positions are the margins
+-- CSI s: the empty list saves the cursor, two positions are the margins
 abbrev pub save_or_margins : List CsiParam → Option Cursor
 save_or_margins [] = Some cursor.SaveCursor
 save_or_margins ts = option_map (λ m. cursor.SetLeftAndRightMargins m.0 m.1) (coordinate_pair word_max ts)
@@ -117,7 +117,7 @@ abbrev pub position_request : List CsiParam → Option Cursor
 position_request (Integer z ∷ []) = if is_number 6 z then Some cursor.RequestActivePositionReport else None
 position_request _ = None
 
--- a line for each final byte
+-- the table of readings: a line for each final byte
 abbrev pub cursor_lines : Lines Cursor
 cursor_lines =
     count_lines cursor_slots (cursor.Up ∷ cursor.Down ∷ cursor.Right ∷ cursor.Left ∷ cursor.NextLine
@@ -136,6 +136,6 @@ cursor_lines =
     ∷ (113, λ ts. option_map cursor.CursorStyle (named_slot cursor_style_named (slot_and_space ts)))  -- q
     ∷ []
 
--- what a list before a final byte spells, if it is a cursor sequence
+-- the cursor sequence that a list before a final byte encodes, if there is one
 unfoldable pub cursor_reading : ℕ → List CsiParam → Option Cursor
 cursor_reading final ts = read_by cursor_lines final ts

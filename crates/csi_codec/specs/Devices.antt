@@ -1,4 +1,4 @@
--- Requests to the terminal itself: the spellings by final byte, and what is written.
+-- Requests to the terminal itself: how they are read, by final byte, and how they are written.
 use Rattle.std.specs.Prelude.{ℕ, List, [], ◌∷◌, Option, Some, None, ◌==◌, if◌then◌else◌}
 use Rattle.csi_codec.specs.Parameters.{is_number, Lines, read_by, Spelled, spelled, number_tokens}
 use Rattle.csi_codec.specs.declared.parameters.CsiParam.{CsiParam}
@@ -21,7 +21,7 @@ abbrev pub status_report : List CsiParam → Option Device
 status_report (Integer z ∷ []) = if is_number 5 z then Some StatusReport else None
 status_report _ = None
 
--- a line for each final byte
+-- the table of readings: a line for each final byte
 abbrev pub device_lines : Lines Device
 device_lines =
     (112, soft_reset)  -- p: DECSTR, xterm
@@ -29,7 +29,7 @@ device_lines =
     ∷ (110, status_report)  -- n: DSR 5, 8.3.35
     ∷ []
 
--- what a list before a final byte spells, if it is a request
+-- the request that a list before a final byte encodes, if there is one
 unfoldable pub device_reading : ℕ → List CsiParam → Option Device
 device_reading final ts = read_by device_lines final ts
 

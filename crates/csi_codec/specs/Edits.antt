@@ -1,4 +1,4 @@
--- Edits: the spellings by final byte, and what is written.
+-- Edits: how they are read, by final byte, and how they are written.
 use Rattle.std.specs.Prelude.{ℕ, ℤ, List, [], ◌∷◌, ◌++◌, Option, option_map}
 use Rattle.csi_codec.specs.Parameters.{one_slot, named_by, named_slot, Lines, read_by, Spelled}
 use Rattle.csi_codec.specs.Slots.{Slots, counted, extent, slots_spelling, count_lines}
@@ -38,7 +38,7 @@ erase_in_display_named z =
 
 -- ---- Writing
 
--- the parameters of each, and its final byte
+-- the parameters and the final byte of each edit
 abbrev pub edit_slots : Edit → Slots × ℕ
 edit_slots (edit.InsertCharacter n) = (counted n, 64)  -- @: ICH, ECMA-48 8.3.64
 edit_slots (edit.DeleteCharacter n) = (counted n, 80)  -- P: DCH, 8.3.26
@@ -56,7 +56,7 @@ edit_spelling e = slots_spelling (edit_slots e)
 
 -- ---- Reading
 
--- a line for each final byte
+-- the table of readings: a line for each final byte
 abbrev pub edit_lines : Lines Edit
 edit_lines =
     count_lines edit_slots (edit.InsertCharacter ∷ edit.DeleteCharacter ∷ edit.InsertLine ∷ edit.DeleteLine
@@ -65,6 +65,6 @@ edit_lines =
     ∷ (75, λ ts. option_map edit.EraseInLine (named_slot erase_in_line_named (one_slot ts)))  -- K
     ∷ []
 
--- what a list before a final byte spells, if it is an edit
+-- the edit that a list before a final byte encodes, if there is one
 unfoldable pub edit_reading : ℕ → List CsiParam → Option Edit
 edit_reading final ts = read_by edit_lines final ts

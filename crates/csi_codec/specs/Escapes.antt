@@ -1,4 +1,4 @@
--- ESC pairs: the codes by their bytes, and what is written.
+-- ESC pairs: the codes by their bytes, and how they are written.
 use Rattle.std.specs.Prelude.{ℕ, List, [], ◌∷◌, ◌++◌, Bool, Option, Some, None, find, ◌==◌, ◌&&◌, unwrap_or}
 use Rattle.std.specs.Prelude.{encode_utf8}
 use Rattle.std.specs.Option.{option_map_or}
@@ -56,12 +56,12 @@ esc_codes =
 
 -- ---- Reading
 
--- whether a code has these bytes, where an intermediate byte of 0 is none
+-- whether a code has these bytes, where an intermediate byte of 0 counts as none
 abbrev pub has_bytes : Option ℕ → ℕ → EscCode → Bool
 has_bytes intermediate control known =
     unwrap_or (esc_code_bytes known).0 0 == unwrap_or intermediate 0 && (esc_code_bytes known).1 == control
 
--- the code that has these bytes
+-- the code that has these bytes, if there is one
 unfoldable pub known_code : Option ℕ → ℕ → Option EscCode
 known_code intermediate control = find (has_bytes intermediate control) esc_codes
 

@@ -1,4 +1,4 @@
--- What holds of every reading.
+-- Laws of every reading.
 use Rattle.std.specs.Prelude.{◌≡◌, ℕ, ◌<◌, ◌-◌, Bool, true, false, not, ◌&&◌, ◌||◌, ◌==◌, nat_lt, List, [], ◌∷◌, ◌++◌}
 use Rattle.std.specs.Prelude.{length, drop}
 use Rattle.std.specs.List.{list_all, AllByRecursion}
@@ -7,7 +7,7 @@ use Rattle.csi_codec.specs.declared.parameters.CsiParam.TheVariants.{P}
 use Rattle.csi_codec.specs.Parameters.{semicolon_at}
 use Rattle.csi_codec.specs.Actions.{Action, unspecified, all_sgr_tokens, csi_reading, spelling_of}
 
--- a list without some tokens at its start
+-- `rest` is `ts` without some tokens at its start
 abbrev pub IsSuffix : List CsiParam → List CsiParam → Type 0
 IsSuffix rest ts = (n : ℕ) × (rest ≡ drop n ts)
 

@@ -11,7 +11,7 @@ abbrev pub counted : ℕ → ℕ → List ℕ
 counted first zero = []
 counted first (suc n) = first ∷ counted (first + 1) n
 
--- the numbers that are a shape alone: those with a value of their own, fonts 11 to 19, and the first sixteen colours
+-- the numbers that are a whole shape: those with a setting of their own, fonts 11 to 19, and the first sixteen colours
 abbrev pub single_numbers : List ℕ
 single_numbers =
     counted 0 20 ++ (counted 21 5 ++ (counted 27 11 ++ (counted 39 9
@@ -25,7 +25,7 @@ underline_shapes = map (λ k. number_part 4 ∷ colon ∷ number_part k ∷ []) 
 abbrev pub colour_shapes : ℕ → List (List Part)
 colour_shapes target = map (λ form. number_part target ∷ form.0) colour_forms
 
--- every shape: a single `;`, a single number, an underline, and a colour of the text, after it and of its line
+-- every shape: a single `;`, a single number, an underline, and a foreground, background or underline colour
 abbrev pub sgr_shapes : List (List Part)
 sgr_shapes =
     (byte_part 59 ∷ []) ∷ (map (λ n. number_part n ∷ []) single_numbers
@@ -49,20 +49,21 @@ pub record IsLongest (ts : List CsiParam) (n : ℕ) : Type 0 where
   pub one : OneStands sgr_shapes ts n
   pub none_longer : NoneIsLonger sgr_shapes ts n
 
--- some form of a colour of n tokens matches there, and its numbers name no colour: one of them is past 255
+-- some form of a colour of n tokens matches there, but encodes no colour: one of its numbers is not 0 to 255
 abbrev pub OneNamesNone : List Form → List CsiParam → ℕ → Type 0
 OneNamesNone [] ts n = ⊥
 OneNamesNone (form ∷ forms) ts n =
     ((stands form.0 ts ≡ true) × (form.1 ts ≡ None) × (length form.0 ≡ n)) ⊎ OneNamesNone forms ts n
 
--- the longest shape that matches is that of a colour after its number, and it names no colour
+-- the longest shape that matches is 38, 48 or 58 and the form of a colour, but it encodes no colour
 pub record IsNoColour (ts : List CsiParam) : Type 0 where
   pub after : ℕ
   pub longest : IsLongest ts (after + 1)
   pub names_none : OneNamesNone colour_forms (drop 1 ts) after
 
 -- A shape is chosen exactly where a listed one matches, and it is the longest of these: where there is a value, the
--- longest that matches takes its tokens; where there is none, no listed shape matches, or the longest names no colour.
+-- longest that matches takes its tokens; where there is none, no listed shape matches, or the longest is the form of a
+-- colour that encodes no colour.
 pub record LongestShapeDecides : Type 0 where
   pub chosen : (ts : List CsiParam) (value : Sgr) (n : ℕ) → sgr_shape ts ≡ Some (value, n) → IsLongest ts n
   pub none : (ts : List CsiParam) → sgr_shape ts ≡ None → NoneStands sgr_shapes ts ⊎ IsNoColour ts

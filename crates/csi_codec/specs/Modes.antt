@@ -1,4 +1,4 @@
--- Modes by number, what a number spells, and what is written.
+-- Modes by number, how changes of modes are read, and how they are written.
 use Rattle.std.specs.Prelude.{ℕ, ℤ, pos, [], ◌∷◌, Option, Some, None, ◌==◌, if◌then◌else◌, option_and_then}
 use Rattle.std.specs.Option.{option_map_or}
 use Rattle.csi_codec.specs.Parameters.{named_by, number_within, Spelled, spelled, number_tokens, private_tokens}
@@ -113,11 +113,11 @@ standard_step final m =
     else (if final == 108 then Some (mode.ResetMode m)  -- l: RM, 8.3.106
     else None)
 
--- what a number after ? spells before a final byte
+-- the change of a private mode that a number after ? and a final byte encode, if there is one
 unfoldable pub private_mode_reading : ℕ → ℤ → Option Mode
 private_mode_reading final z = option_and_then (λ n. private_step final (dec_mode_of n)) (number_within 65535 z)
 
--- what a number spells before a final byte
+-- the change of a mode of the standard that a number and a final byte encode, if there is one
 unfoldable pub mode_reading : ℕ → ℤ → Option Mode
 mode_reading final z = option_and_then (λ n. standard_step final (ansi_mode_of n)) (number_within 65535 z)
 

@@ -34,25 +34,25 @@ abbrev pub position : ℕ → Option ℤ → Option ℕ
 position default None = Some default
 position default (Some z) = option_map (or_default default) (number_within word_max z)
 
--- the position that a parameter names, 0 standing for the default
+-- the position that a parameter names, where 0 is the default
 abbrev pub one_based : ℕ → CsiParam → Result ℕ CrackError
 one_based default (Integer z) = ok_or (position default (Some z)) NotASpelling
 one_based default (P b) = Err NotASpelling
 
--- absent and 0 are 1
+-- the position of an optional parameter, where an absent one and 0 are 1
 abbrev pub optional_one_based : Option CsiParam → Result ℕ CrackError
 optional_one_based None = Ok 1
 optional_one_based (Some param) = one_based 1 param
 
 -- ---- Slots
 
--- nothing, or one number
+-- the list is empty or one number
 abbrev pub one_slot : List CsiParam → Option (Option ℤ)
 one_slot [] = Some None
 one_slot (Integer z ∷ []) = Some (Some z)
 one_slot _ = None
 
--- nothing, a, a;, ;, ;b or a;b
+-- the list is empty, a, a;, ;, ;b or a;b
 abbrev pub two_slots : List CsiParam → Option (Option ℤ × Option ℤ)
 two_slots [] = Some (None, None)
 two_slots (Integer a ∷ []) = Some (Some a, None)
@@ -62,13 +62,13 @@ two_slots (P s ∷ []) = if s == 59 then Some (None, None) else None
 two_slots (P s ∷ Integer b ∷ []) = if s == 59 then Some (None, Some b) else None
 two_slots _ = None
 
--- nothing or one number, and after it a space
+-- the list is a space, or one number and a space
 abbrev pub slot_and_space : List CsiParam → Option (Option ℤ)
 slot_and_space (P s ∷ []) = if s == 32 then Some None else None
 slot_and_space (Integer z ∷ P s ∷ []) = if s == 32 then Some (Some z) else None
 slot_and_space _ = None
 
--- a count, or a single position: absent and 0 are 1
+-- a count, or a single position: an absent one and 0 are 1
 abbrev pub count : List CsiParam → Option ℕ
 count ts = option_and_then (position 1) (one_slot ts)
 
@@ -119,7 +119,7 @@ spelled params control = record { params = params; control = control }
 abbrev pub spelled_text : Spelled → List ℕ
 spelled_text s = flat_map token_text s.params ++ encode_utf8 s.control
 
--- and ESC [ before that
+-- ESC [ and the text after it
 abbrev pub sequence_text : Spelled → List ℕ
 sequence_text s = 27 ∷ 91 ∷ spelled_text s
 
@@ -145,7 +145,7 @@ private_tokens n = P 63 ∷ Integer (pos n) ∷ []
 
 -- ---- Tables
 
--- the one of some names that has a number
+-- the first of the names that has this number, if there is one
 abbrev pub named_by : {A : Type 0} → (A → ℕ) → List A → ℤ → Option A
 named_by number names z = find (λ known. is_number (number known) z) names
 
@@ -153,11 +153,11 @@ named_by number names z = find (λ known. is_number (number known) z) names
 abbrev pub named_slot : {A : Type 0} → (ℤ → Option A) → Option (Option ℤ) → Option A
 named_slot named slots = option_and_then (λ slot. named (slot_number slot)) slots
 
--- the lines of a table of spellings: a final byte, and what a list before it spells
+-- the lines of a table of readings: a final byte, and what a list before it encodes
 abbrev pub Lines : Type 0 → Type 0
 Lines A = List (ℕ × (List CsiParam → Option A))
 
--- what a list before a final byte spells
+-- what a list before a final byte encodes, by the first line of the table with that byte
 abbrev pub read_by : {A : Type 0} → Lines A → ℕ → List CsiParam → Option A
 read_by [] final ts = None
 read_by (line ∷ lines) final ts = if line.0 == final then line.1 ts else read_by lines final ts

@@ -1,4 +1,4 @@
--- What is to come of a list from a position on.
+-- The remaining actions of a list from a position on.
 use Rattle.std.specs.Prelude.{◌≡◌, ℕ, ◌<◌, Bool, List, [], ◌∷◌, length, drop, ◌==◌, if◌then◌else◌}
 use Rattle.csi_codec.specs.declared.parameters.CsiParam.{CsiParam}
 use Rattle.csi_codec.specs.declared.groups.Kind.{Kind}
@@ -9,7 +9,7 @@ use Rattle.csi_codec.specs.Actions.{Action, unspecified, sgr_groups, private_mod
 use Rattle.csi_codec.specs.Actions.{csi_reading}
 use Rattle.csi_codec.specs.Laws.{begins_with_question}
 
--- what the groups of the code's kind are
+-- the kind of groups for a `Kind` of the code
 abbrev pub kind_of : Kind → actions.Kind
 kind_of code.PrivateModes = private_mode_groups
 kind_of code.StandardModes = standard_mode_groups
@@ -30,7 +30,7 @@ actions_after read ts truncated final =
 abbrev pub actions_from : ParamCursor → List CsiParam → Bool → ℕ → List Action
 actions_from position ts truncated final = actions_after position.index ts truncated final
 
--- all actions of any list are to come
+-- at this position all actions of any list remain
 abbrev pub IsStart : ParamCursor → Type 0
 IsStart position = (ts : List CsiParam) (truncated : Bool) (final : ℕ)
     → actions_from position ts truncated final ≡ csi_reading ts truncated final

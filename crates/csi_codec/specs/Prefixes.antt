@@ -36,7 +36,7 @@ pub record IsSequence (bytes body : List ℕ) (control : ℕ) (rest : List ℕ) 
   pub low : 64 ≤ control
   pub high : control ≤ 126
 
--- this sequence is a prefix of the bytes; of the tokens that its bytes spell it keeps the first `most_tokens`
+-- this sequence is a prefix of the bytes; its parameters are the first `most_tokens` tokens that its bytes encode
 pub record HasPrefix (bytes : List ℕ) (prefix : Prefix) : Type 0 where
   pub body : List ℕ
   pub sequence : IsSequence bytes body prefix.control prefix.rest

@@ -1,4 +1,4 @@
--- SGR: the shapes of a group with their values, and what is written.
+-- SGR: the shapes of a group with their values, and how settings are written.
 -- ECMA-48 8.3.117; ISO 8613-6 13.1.8 for 38, 48 and the forms with colons; xterm: Character Attributes (SGR).
 use Rattle.std.specs.Prelude.{ℕ, zero, suc, ℤ, pos, List, [], ◌∷◌, length, Bool, true, false, ◌&&◌, Option, Some, None}
 use Rattle.std.specs.Prelude.{nat_le, nat_lt, ◌==◌, ◌+◌, ◌-◌, if◌then◌else◌, option_map, option_and_then, slice_get}
@@ -136,12 +136,13 @@ abbrev pub alpha_tokens : ℕ → ℕ → ℕ → ℕ → ℕ → List CsiParam
 alpha_tokens target r g b a =
     number target ∷ P 58 ∷ number 6 ∷ P 58 ∷ P 58 ∷ number r ∷ P 58 ∷ number g ∷ P 58 ∷ number b ∷ P 58 ∷ number a ∷ []
 
--- with its alpha where the colour isn't opaque
+-- a colour of channels, with its alpha where it isn't opaque
 abbrev pub colour_tokens : ℕ → SrgbaTuple → List CsiParam
 colour_tokens target c =
     if c.3 == 255 then opaque_tokens target c.0 c.1 c.2 else alpha_tokens target c.0 c.1 c.2 c.3
 
--- a colour whose default is `off`, and whose first sixteen entries are short: low 0 to 7, bright 8 to 15
+-- a foreground or background colour: the default is the number `off`, and the first sixteen palette entries are one
+-- number each, 0 to 7 from `low` on and 8 to 15 from `bright` on
 abbrev pub short_colour_tokens : ℕ → ℕ → ℕ → ℕ → ColorSpec → List CsiParam
 short_colour_tokens target off low bright color.Default = number_tokens off
 short_colour_tokens target off low bright (color.PaletteIndex n) =
@@ -258,7 +259,7 @@ underline_shape _ = underline_or_single None
 
 -- ---- Groups
 
--- a colour after its number; the tokens are counted with the number
+-- the form of a colour after 38, 48 or 58; the token count includes that number
 abbrev pub colour_shape : (ColorSpec → Sgr) → List CsiParam → Option (Sgr × ℕ)
 colour_shape target ts = option_map (λ form. (target form.0, form.1 + 1)) (colour_form ts)
 

@@ -36,8 +36,8 @@ abbrev pub FirstNeedsMemory : List Action → Type 0
 FirstNeedsMemory [] = ⊥
 FirstNeedsMemory (first ∷ remaining) = NeedsMemory first
 
--- one step of the iterator: the first of the actions that are to come, or nothing where none is;
--- where memory was refused no action is to come
+-- one step of the iterator: it returns the first of the remaining actions, or `None` where none remains;
+-- after a refusal of memory no action remains
 abbrev pub HandsOut : List Action → Option (Result CSI AllocError) → List Action → Type 0
 HandsOut before None after = (before ≡ []) × (after ≡ [])
 HandsOut before (Some (Ok value)) after = before ≡ action_of value ∷ after

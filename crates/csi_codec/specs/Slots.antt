@@ -1,4 +1,4 @@
--- The parameters of a cursor sequence or an edit: what is written for them, and which of their numbers can be written.
+-- The parameters of a cursor sequence or an edit: how they are written, and which of their numbers can be written.
 use Rattle.std.specs.Prelude.{ℕ, ◌≤◌, List, [], ◌∷◌, ◌++◌, map, option_map}
 use Rattle.csi_codec.specs.Parameters.{word_max, count, Lines, Spelled, spelled, number_tokens, count_tokens}
 use Rattle.csi_codec.specs.Parameters.{pair_tokens, extent_tokens}
@@ -34,7 +34,7 @@ slots_tokens (spaced n) = number_tokens n ++ P 32 ∷ []
 abbrev pub slots_spelling : Slots × ℕ → Spelled
 slots_spelling slots = spelled (slots_tokens slots.0) slots.1
 
--- the lines of what has one count or position, each under the final byte that it is written with
+-- the table lines of the sequences that have one count or position, each under the final byte of the sequence
 abbrev pub count_lines : {A : Type 0} → (A → Slots × ℕ) → List (ℕ → A) → Lines A
 count_lines slots makes = map (λ make. ((slots (make 1)).1, λ ts. option_map make (count ts))) makes
 

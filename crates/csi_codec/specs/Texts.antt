@@ -1,4 +1,4 @@
--- Parameter bytes and the tokens that they spell.
+-- Parameter bytes and the tokens that they encode.
 use Rattle.std.specs.Prelude.{ℕ, ℤ, pos, negsuc, ◌+◌, ◌-◌, ◌*◌, min, Bool, true, false, not, ◌&&◌, ◌||◌, List, [], ◌∷◌}
 use Rattle.std.specs.Prelude.{◌++◌, Option, Some, None, unwrap_or, nat_le, if◌then◌else◌}
 use Rattle.std.specs.Char.{is_ascii_digit}
@@ -12,12 +12,12 @@ use Rattle.csi_codec.specs.Rendition.{is_between}
 abbrev pub largest_number : ℕ
 largest_number = 9223372036854775807
 
--- the number whose digits have begun, cut at the largest
+-- the token of the digits read so far, cut at the largest
 abbrev pub begun_token : Option ℕ → List CsiParam
 begun_token None = []
 begun_token (Some n) = Integer (pos (min n largest_number)) ∷ []
 
--- the tokens of the bytes after the digits that have begun
+-- the tokens of the digits read so far and the bytes after them
 abbrev pub tokens_after : Option ℕ → List ℕ → List CsiParam
 tokens_after begun [] = begun_token begun
 tokens_after begun (b ∷ bs) =
@@ -28,7 +28,7 @@ tokens_after begun (b ∷ bs) =
 abbrev pub tokens_of : List ℕ → List CsiParam
 tokens_of bytes = tokens_after None bytes
 
--- ---- Lists that bytes can spell
+-- ---- Lists that bytes can encode
 
 -- ECMA-48 5.4: intermediate bytes, and parameter bytes except digits
 abbrev pub is_sign : ℕ → Bool

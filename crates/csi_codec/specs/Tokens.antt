@@ -20,13 +20,13 @@ pub record Parameters : Type 0 where
 abbrev pub no_parameters : Parameters
 no_parameters = record { tokens = []; truncated = false; number = None }
 
--- one token more, where there is room
+-- one token more if there is room, otherwise the list is truncated
 abbrev pub with_token : Parameters → CsiParam → Option ℕ → Parameters
 with_token p token number =
     if nat_lt (length p.tokens) most_tokens then record p { tokens = p.tokens ++ token ∷ []; number = number }
     else record p { truncated = true; number = number }
 
--- the last token is another number, if it was kept
+-- the last token replaced by another number, if that token was kept
 abbrev pub with_number : Parameters → ℕ → Parameters
 with_number p n =
     if p.truncated then record p { truncated = true; number = Some n }
@@ -44,6 +44,6 @@ with_byte p b =
     else with_token p (Integer (pos (next_number p.number b))) (Some (next_number p.number b)))
     else with_token p (P b) None
 
--- the parameter bytes in turn
+-- the tokens after reading these bytes
 abbrev pub parameters_of : List ℕ → Parameters
 parameters_of bytes = fold with_byte no_parameters bytes

@@ -1,5 +1,5 @@
--- Values that can be written: what is written for them reads back as they are. The other values of these types are a
--- count or a position of 0, an alternate font past 9, and a mode by a number that has a name.
+-- Values that can be written: their text reads back as the value itself. The other values of these types are a count
+-- or a position of 0, an alternate font that is not 1 to 9, a mode by a number that has a name, and the rest of a list.
 use Rattle.std.specs.Prelude.{◌≡◌, ℕ, ◌≤◌, ◌⊎◌, pos, Bool, Option, Some, None}
 use Rattle.cell_base.specs.declared.color.ColorSpec.{ColorSpec}
 use Rattle.cell_base.specs.declared.color.ColorSpec.TheVariants as color
@@ -49,7 +49,7 @@ IsWritableMode (does.RestoreDecPrivateMode m) = IsWritablePrivateMode m
 IsWritableMode (does.SetMode m) = IsWritableStandardMode m
 IsWritableMode (does.ResetMode m) = IsWritableStandardMode m
 
--- a colour of bytes, as every colour of the code is
+-- a colour whose numbers are bytes, as those of every `ColorSpec` in Rust code are
 abbrev pub IsColour : ColorSpec → Type 0
 IsColour color.Default = Unit {0}
 IsColour (color.PaletteIndex n) = n ≤ 255
@@ -63,7 +63,7 @@ IsWritableSgr (value.Background c) = IsColour c
 IsWritableSgr (value.UnderlineColor c) = IsColour c
 IsWritableSgr _ = Unit {0}
 
--- an action that a program can build and write; the rest of a list is none
+-- an action that a program can build and write, which the rest of a list is not
 abbrev pub IsWritable : Action → Type 0
 IsWritable (sgr v) = IsWritableSgr v
 IsWritable (cursor c) = IsWritableCursor c
@@ -89,6 +89,6 @@ ArePairBytes (Some between) final = (32 ≤ between) × (between ≤ 47) × (48 
 abbrev pub WritableActionsReadBack : Type 0
 WritableActionsReadBack = (truncated : Bool) (a : Action) → IsWritable a → ReadsBack truncated a
 
--- and its text is one sequence of them, with nothing after it
+-- the text of each is one sequence of these parameters and this final byte, with nothing after it
 abbrev pub WritableTextsAreSequences : Type 0
 WritableTextsAreSequences = (a : Action) → IsWritable a → HasPrefix (csi_text a) (whole_prefix (spelling_of a))

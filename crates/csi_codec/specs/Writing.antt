@@ -1,4 +1,4 @@
--- What private steps of writing say: the digits of a number, and a sequence whose final byte is not written yet.
+-- Definitions for private functions that write: the digits of a number, and a sequence without its final byte yet.
 use Rattle.std.specs.Prelude.{ℕ, ◌+◌, ◌/◌, ◌%◌, Bool, ◌&&◌, ◌==◌, nat_lt, if◌then◌else◌, List, ◌∷◌, flat_map}
 use Rattle.csi_codec.specs.declared.parameters.CsiParam.{CsiParam}
 use Rattle.csi_codec.specs.Parameters.{token_text}

@@ -14,7 +14,8 @@ pub struct Cracked {
 
 impl Cracked {
     /// The entries of a list of numbers and `;`: a number is an entry, a `;` right after a number separates, any
-    /// other `;` is an absent entry. A list with another byte is `NotASpelling`, whatever the memory.
+    /// other `;` is an absent entry. A list with another byte is refused with `NotASpelling` before memory is
+    /// allocated.
     pub fn parse(alloc: Global, params: &[CsiParam]) -> Result<Self, CrackError>
         ensures entries { IfOk result (λ c. entries_of c ≡ cracked params.now) }
         ensures refused { IsErrOf result CrackError.NotASpelling ↔ (all_crackable params.now ≡ false) }

@@ -239,7 +239,7 @@ impl ControlSequence for Cursor {
     }
 }
 
-/// A style's number and a space.
+/// Sets `text` to DECSCUSR: `ESC [`, the number of the style, a space and `q`.
 #[tactic(auto, unfolding(crate::specs::Cursors::cursor_spelling))]
 fn put_style(style: CursorStyle, text: &mut SequenceText)
     ensures { text.new ≡ sequence_text (cursor_spelling (Cursor.CursorStyle style)) }
@@ -251,7 +251,7 @@ fn put_style(style: CursorStyle, text: &mut SequenceText)
     *text = built;
 }
 
-/// What a whole list before a final byte spells, if it is a cursor sequence.
+/// The cursor sequence that a whole list before a final byte encodes, if there is one.
 #[tactic(auto, unfolding(crate::specs::Cursors::cursor_reading))]
 #[inline(always)]
 pub(crate) fn cursor_reading(params: &[CsiParam], control: char) -> Option<Cursor>

@@ -51,7 +51,7 @@ fn put_soft_reset(text: &mut SequenceText)
     *text = built;
 }
 
-/// What a whole list before a final byte spells, if it is a request.
+/// The request that a whole list before a final byte encodes, if there is one.
 #[tactic(auto, unfolding(crate::specs::Devices::device_reading))]
 pub(crate) fn device_reading(params: &[CsiParam], control: char) -> Option<Device>
     ensures { result ≡ device_reading control params.now }

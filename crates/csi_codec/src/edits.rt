@@ -136,7 +136,7 @@ impl ControlSequence for Edit {
     }
 }
 
-/// What a whole list before a final byte spells, if it is an edit.
+/// The edit that a whole list before a final byte encodes, if there is one.
 #[tactic(auto, unfolding(crate::specs::Edits::edit_reading))]
 #[inline(always)]
 pub(crate) fn edit_reading(params: &[CsiParam], control: char) -> Option<Edit>

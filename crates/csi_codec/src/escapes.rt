@@ -126,7 +126,7 @@ impl EscCode {
         }
     }
 
-    /// The code that has these bytes, where an intermediate byte of 0 is none.
+    /// The code that has these bytes, if there is one. An intermediate byte of 0 counts as none.
     #[tactic(auto, unfolding(crate::specs::Escapes::known_code))]
     fn of_bytes(intermediate: Option<u8>, control: u8) -> Option<Self>
         ensures { result ≡ known_code intermediate control }
@@ -220,7 +220,8 @@ impl Esc {
         }
     }
 
-    /// What an ESC pair means; it takes no memory. Intermediate 0 before the final byte of a single code is none.
+    /// The ESC pair with these bytes. It allocates nothing. An intermediate byte of 0 before the final byte of a code
+    /// that has no intermediate byte counts as none.
     pub fn parse(intermediate: Option<u8>, control: u8) -> Self
         ensures { result ≡ esc_reading intermediate control }
     {

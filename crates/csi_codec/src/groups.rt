@@ -6,7 +6,7 @@ ghost use Rattle.csi_codec.specs.Parsing.{kind_of};
 use crate::modes::{Mode, mode_reading, private_mode_reading};
 use crate::parameters::{CsiParam, semicolon_at};
 
-/// What a list of modes is made of.
+/// The kind of the modes in a list: private modes, or modes of the standard.
 #[derive(Clone, Copy, Debug)]
 pub(crate) enum Kind {
     PrivateModes,

@@ -5,8 +5,8 @@ ghost use Rattle.csi_codec.specs.Longest.{LongestShapeDecides};
 ghost use Rattle.csi_codec.specs.Sizes.{ActionsAreShort};
 ghost use Rattle.csi_codec.specs.Writable.{WritableActionsReadBack, WritableTextsAreSequences};
 
-/// The actions of an SGR list, a `;` and a second list are the actions of the first list and then those of the second,
-/// where the first is wholly known and does not end in `;`.
+/// The actions of an SGR list, a `;` and a second list are the actions of the first list and then those of the second.
+/// Both lists have at least one token and only tokens of SGR; the first has no unread rest and does not end in `;`.
 pub fn sgr_lists_join()
     ensures { SgrListsJoin }
 {}
@@ -23,25 +23,25 @@ pub fn one_prefix()
     ensures { OnePrefix }
 {}
 
-/// The text of an action is one sequence and nothing after it, and spells the parameters and the final byte that are
-/// written for the action: so it is for each action of a spellable list of at most 256 tokens with a final byte from
-/// `@` to `~`.
+/// The text of each action of a list is one sequence with nothing after it, and encodes the parameters and the final
+/// byte that are written for the action. The list is one that bytes can encode, has at most 256 tokens, and a final
+/// byte from `@` to `~`.
 pub fn texts_are_sequences()
     ensures { TextsAreSequences }
 {}
 
 /// An action that can be written is the one action of the parameters and the final byte that are written for it, under
 /// either flag: a cursor sequence or an edit whose counts and positions are 1 to 4294967295, every request, a mode by
-/// its name or by a number to 65535 that has none, and an SGR of any colour and of the fonts 1 to 9 or the default. Its
-/// text is one sequence of them, with nothing after it. So a program that builds and writes one of these actions knows
-/// how a reader reads it.
+/// its name or by a number to 65535 that has no name, and every SGR setting, where alternate fonts are 1 to 9. Its
+/// text is one sequence of these parameters and this final byte, with nothing after it. So a program that builds and
+/// writes one of these actions knows how a reader reads it.
 pub fn writable_actions_read_back()
     ensures action { WritableActionsReadBack }
     ensures text { WritableTextsAreSequences }
 {}
 
-/// The text of an action that can be written has at most 24 bytes: as many as an SGR (`ESC [38:6::255:255:255:255m`)
-/// and a cursor sequence (`ESC [4294967295;4294967295H`) can have.
+/// The text of an action that can be written has at most 24 bytes, the length of the longest SGR
+/// (`ESC [38:6::255:255:255:255m`) and of the longest cursor sequence (`ESC [4294967295;4294967295H`).
 pub fn writable_texts_are_short()
     ensures action { ActionsAreShort }
 {}

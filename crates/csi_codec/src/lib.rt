@@ -17,8 +17,8 @@
 //! - `sequences`: CSI sequences: what a list of parameters before a final byte means, action by action.
 //! - `sgr_reading`: SGR: reading a group, by the number that it begins with.
 //! - `sgr_spelling`: SGR: writing a setting.
-//! - `spelling`: what is written as a control sequence, and the texts that families share: `ESC [`, parameters
-//!   and a final byte, which is ASCII.
+//! - `spelling`: values that are written as a control sequence (`ESC [`, parameters and an ASCII final byte), and
+//!   the texts that several kinds of them share.
 //! - `text`: the bytes of a sequence, as they are written.
 //! - `tokens`: the tokens of a control sequence, as its bytes come.
 #![tactic(auto)]

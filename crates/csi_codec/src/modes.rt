@@ -175,7 +175,7 @@ pub enum TerminalMode {
     Unspecified(u16),
 }
 
-/// What becomes of a mode.
+/// A change of a mode: it is set, reset, saved or restored.
 #[derive(Clone, Copy, Debug, PartialEq, Eq)]
 pub enum Mode {
     /// DECSET.
@@ -217,7 +217,7 @@ impl ControlSequence for Mode {
     }
 }
 
-/// `?` and the number of a private mode.
+/// Sets `text` to a sequence of `?`, the number of a private mode and a final byte.
 fn put_private(mode: DecPrivateMode, control: u8, text: &mut SequenceText)
     requires { control < 128 }
     ensures { text.new ≡ sequence_text (spelled (private_tokens (dec_mode_code mode)) control) }
@@ -253,7 +253,7 @@ impl TerminalMode {
     }
 }
 
-/// What a number after `?` spells before a final byte.
+/// The change of a private mode that a number after `?` and a final byte encode, if there is one.
 #[tactic(auto, unfolding(crate::specs::Modes::private_mode_reading))]
 pub(crate) fn private_mode_reading(value: i64, control: char) -> Option<Mode>
     ensures { result ≡ private_mode_reading control value }
@@ -270,7 +270,7 @@ pub(crate) fn private_mode_reading(value: i64, control: char) -> Option<Mode>
     }
 }
 
-/// What a number spells before a final byte.
+/// The change of a mode of the standard that a number and a final byte encode, if there is one.
 #[tactic(auto, unfolding(crate::specs::Modes::mode_reading))]
 pub(crate) fn mode_reading(value: i64, control: char) -> Option<Mode>
     ensures { result ≡ mode_reading control value }

@@ -33,7 +33,7 @@ impl fmt::Display for OneBased {
 impl OneBased {
     ghost use Rattle.csi_codec.specs.Parameters.{one_based, optional_one_based, word_max};
 
-    /// The position that counts as `value` from 1.
+    /// The position `value`, counted from 1.
     pub fn new(value: u32) -> Self
         requires { 1 ≤ value }
         ensures { result ≡ value }
@@ -41,7 +41,7 @@ impl OneBased {
         OneBased { value }
     }
 
-    /// The position that counts as `value` from 0.
+    /// The position `value`, counted from 0.
     pub fn from_zero_based(value: u32) -> Self
         requires { value < u32.MAX }
         ensures { result ≡ value + 1 }

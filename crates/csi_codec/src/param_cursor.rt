@@ -31,8 +31,8 @@ impl ParamCursor {
         ParamCursor { index: 0 }
     }
 
-    /// The action at this position of a list, with the list's flag and final byte, which must be the same at each call.
-    /// It goes on to the next position. After a refusal of memory, and after the last action, it answers `None`.
+    /// Returns the action at this position of a list, and moves to the next position. The list, its flag and its final
+    /// byte must be the same at each call. After a refusal of memory, and after the last action, it returns `None`.
     #[inline(always)]
     pub fn next(
         &mut self,
@@ -64,7 +64,7 @@ impl ParamCursor {
         }
     }
 
-    /// Whether no action of a list is to come at this position.
+    /// Whether no action of a list remains at this position.
     #[inline(always)]
     pub fn is_end(&self, params: &[CsiParam]) -> bool
         ensures done { result ≡ true → (truncated : Bool) (control : ℕ)
@@ -79,7 +79,7 @@ impl ParamCursor {
         read >= params.len()
     }
 
-    /// The setting at this position of an SGR list, or else all that is left.
+    /// The setting at this position of an SGR list, or else the rest of the list.
     #[inline(always)]
     fn setting(
         &mut self,
@@ -100,7 +100,7 @@ impl ParamCursor {
         }
     }
 
-    /// The mode at this position of a list of modes after the first `start` tokens, or else all that is left.
+    /// The mode at this position of a list whose modes begin after the first `start` tokens, or else the rest of it.
     #[inline(always)]
     fn mode(
         &mut self,
@@ -128,7 +128,7 @@ impl ParamCursor {
         }
     }
 
-    /// All that is left after this position, as the last action.
+    /// The rest of the list from this position on, as the last action.
     #[inline(always)]
     fn rest(
         &mut self,
@@ -149,8 +149,8 @@ impl ParamCursor {
     }
 }
 
-/// The setting at position `read` of an SGR list, which is not its end, and the position after it. The empty list is a
-/// reset. The first setting is read only where all tokens after it are tokens of SGR.
+/// The setting at position `read` of an SGR list, which is not its end, and the position after the setting. The empty
+/// list is a reset. The first setting is read only where all tokens after that setting are tokens of SGR.
 #[inline(never)]
 fn setting_at(read: usize, params: &[CsiParam]) -> Option<(Sgr, usize)>
     requires { read < max (length params.now) 1 }
@@ -169,7 +169,7 @@ fn setting_at(read: usize, params: &[CsiParam]) -> Option<(Sgr, usize)>
     }
 }
 
-/// The one action of a whole list, or the list itself.
+/// The one action that a whole list encodes, or the list unread.
 fn single(
     alloc: Global,
     params: &[CsiParam],

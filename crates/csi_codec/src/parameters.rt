@@ -28,7 +28,7 @@ impl fmt::Display for CsiParam {
 }
 
 impl CsiParam {
-    /// What is written for it.
+    /// The text of this token.
     fn text(self) -> SequenceText
         ensures { result ≡ token_text self }
     {
@@ -56,7 +56,7 @@ fn signed_text(number: i64) -> SequenceText
     text
 }
 
-/// The rest of a list that has no reading, with the flag and the final byte that it was read under.
+/// The rest of a list that encodes no known action, with the flag and the final byte of the list.
 #[derive(Debug, PartialEq, Eq, Drop)]
 pub struct Unspecified {
     pub params: Vec<CsiParam>,
@@ -90,7 +90,7 @@ impl Unspecified {
         result
     }
 
-    /// Appends these bytes one after another; what was appended before a refusal stays.
+    /// Appends the same bytes part by part. Where memory is refused, the parts appended before stay.
     fn append_parts_to(&self, bytes: &mut Vec<u8>) -> Result<(), AllocError>
         ensures ok { OnOk result (bytes.new.items
             ≡ bytes.old.items ++ sequence_text (spelled self.now.params.items self.now.control)) }
@@ -116,10 +116,10 @@ impl Unspecified {
     }
 }
 
-/// Why a list is no spelling.
+/// Why a list of parameters is refused.
 #[derive(Clone, Copy, Debug, PartialEq, Eq, Error)]
 pub enum CrackError {
-    /// The parameters do not spell what was asked for.
+    /// The parameters do not encode a value of the requested kind.
     #[error("not a spelling")]
     NotASpelling,
     /// Memory was refused.
@@ -139,7 +139,7 @@ pub(crate) fn number_within(top: u32, value: i64) -> Option<u32>
     }
 }
 
-/// The position `value`, or `default` for 0; `None` where a parameter cannot hold `value`.
+/// The position `value`, or `default` for 0; `None` where `value` is not 0 to `u32::MAX`.
 #[inline(always)]
 pub(crate) fn position(default: u32, value: i64) -> Option<OneBased>
     requires { 1 ≤ default }
@@ -173,14 +173,14 @@ pub(crate) fn number_and_space(params: &[CsiParam]) -> Option<i64>
     }
 }
 
-/// The single position that a list spells, where absent and 0 are 1.
+/// The position of a list that is empty or one number, where an absent one and 0 are 1.
 pub(crate) fn one_coordinate(params: &[CsiParam]) -> Option<OneBased>
     ensures { result ≡ count params.now }
 {
     position(1, one_number(params)?)
 }
 
-/// The count that a list spells, where absent and 0 are 1.
+/// The count of a list that is empty or one number, where an absent one and 0 are 1.
 pub(crate) fn count(params: &[CsiParam]) -> Option<u32>
     ensures { result ≡ count params.now }
 {
@@ -205,7 +205,8 @@ fn two_numbers(params: &[CsiParam]) -> Option<(i64, i64)>
     }
 }
 
-/// The two positions that a list spells, where absent and 0 are 1, or `default` for the second.
+/// The two positions of a list with at most one number on each side of a `;`. An absent one and 0 are 1 for the first
+/// position and `default` for the second.
 #[inline(always)]
 pub(crate) fn coordinate_pair(default: u32, params: &[CsiParam]) -> Option<(OneBased, OneBased)>
     requires { 1 ≤ default }
@@ -227,7 +228,7 @@ pub(crate) fn semicolon_at(params: &[CsiParam], position: usize) -> usize
     }
 }
 
-/// What follows the first `len` tokens.
+/// The tokens after the first `len` ones.
 #[inline(always)]
 pub(crate) fn after(params: &[CsiParam], len: usize) -> &[CsiParam]
     requires { len ≤ length params.now }

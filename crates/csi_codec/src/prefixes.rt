@@ -6,7 +6,7 @@ use crate::parameters::CsiParam;
 use crate::tokens::Parameters;
 use std::alloc::{AllocError, Global};
 
-/// A control sequence at the start of some bytes, and what follows it.
+/// A control sequence at the start of some bytes, and the bytes after it.
 #[derive(Debug, PartialEq, Eq, Drop)]
 pub struct CsiFront<'a> {
     /// The tokens between `ESC [` and the final byte, the first 256 of them: a run of digits is one number, cut at
@@ -21,7 +21,7 @@ pub struct CsiFront<'a> {
 }
 
 impl<'a> CsiFront<'a> {
-    /// A copy, which lends the same rest.
+    /// A copy, which borrows the same `rest`.
     pub fn try_clone(&self) -> Result<CsiFront<'a>, AllocError>
         ensures { IfOk result (λ copy. prefix_of copy ≡ prefix_of self.now) }
     {
@@ -68,7 +68,7 @@ fn is_final(byte: u8) -> bool
     matches!(byte, 0x40..=0x7e)
 }
 
-/// What follows `ESC [`.
+/// The bytes after `ESC [`, if `bytes` begin with it.
 fn after_introducer(bytes: &[u8]) -> Option<&[u8]>
     ensures some { IfSome result (λ after. bytes.now ≡ 27 ∷ 91 ∷ after.now) }
     ensures none { IfNone result ((after : List ℕ) → bytes.now ≡ 27 ∷ 91 ∷ after → ⊥) }

@@ -118,7 +118,7 @@ impl CSI {
     }
 }
 
-/// The actions of a list, in order. After a refusal of memory, and after the last one, it answers `None`.
+/// The actions of a list, in order. After a refusal of memory, and after the last action, it returns `None`.
 #[derive(Drop)]
 pub struct CSIParser<'a> {
     alloc: Global,
@@ -157,7 +157,7 @@ impl<'a> Iterator for CSIParser<'a> {
     }
 }
 
-/// A request as a value, which is boxed.
+/// A request as a `CSI` value, which boxes it.
 #[inline(never)]
 pub(crate) fn request(alloc: Global, value: Device) -> Result<CSI, AllocError>
     ensures { IfOk result (λ sequence. action_of sequence ≡ device value) }
@@ -165,7 +165,7 @@ pub(crate) fn request(alloc: Global, value: Device) -> Result<CSI, AllocError>
     Ok(CSI::Device(Box::new(alloc, value)?))
 }
 
-/// A list without a reading, as a value.
+/// A list that encodes no known action, as a `CSI` value.
 #[inline(never)]
 pub(crate) fn unspecified(
     alloc: Global,

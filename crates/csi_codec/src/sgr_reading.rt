@@ -22,7 +22,7 @@ use crate::parameters::{number_within, semicolon_at};
 use crate::rendition::{Font, Sgr};
 use cell_base::{Blink, ColorSpec, Intensity, SrgbaTuple, Underline, VerticalAlign};
 
-/// The number as a byte.
+/// The number as a byte, if it is 0 to 255.
 fn channel(value: i64) -> Option<u8>
     ensures { result ≡ number_within 255 value }
 {
@@ -58,7 +58,8 @@ fn with_alpha(len: usize, red: i64, green: i64, blue: i64, alpha: i64) -> Option
     Some((ColorSpec::TrueColor(color), len))
 }
 
-/// The colour given with `;` by its kind and the rest, and how many tokens it takes with the sign and the kind.
+/// The colour of a form with `;`, where `kind` follows the first `;` and `params` follow the kind, and how many tokens
+/// the form takes from its first `;` on.
 #[tactic(auto, unfolding(crate::specs::Rendition::colour_form))]
 fn semicolon_form(kind: i64, params: &[CsiParam]) -> Option<(ColorSpec, usize)>
     ensures { result ≡ colour_form (P 59 ∷ Integer kind ∷ params.now) }
@@ -81,7 +82,8 @@ fn semicolon_form(kind: i64, params: &[CsiParam]) -> Option<(ColorSpec, usize)>
     }
 }
 
-/// The colour given with `:` by its kind and the rest, and how many tokens it takes with the sign and the kind.
+/// The colour of a form with `:`, where `kind` follows the first `:` and `params` follow the kind, and how many tokens
+/// the form takes from its first `:` on.
 #[tactic(auto, unfolding(crate::specs::Rendition::colour_form))]
 fn colon_form(kind: i64, params: &[CsiParam]) -> Option<(ColorSpec, usize)>
     ensures { result ≡ colour_form (P 58 ∷ Integer kind ∷ params.now) }
@@ -94,7 +96,7 @@ fn colon_form(kind: i64, params: &[CsiParam]) -> Option<(ColorSpec, usize)>
     }
 }
 
-/// The opaque colour that the tokens after its kind give, with `:` between them.
+/// The opaque colour of the form with `:` and kind 2, where `params` follow the kind, and the form's token count.
 #[tactic(auto, unfolding(crate::specs::Rendition::colour_form))]
 fn colon_opaque(params: &[CsiParam]) -> Option<(ColorSpec, usize)>
     ensures { result ≡ colour_form (P 58 ∷ Integer (pos 2) ∷ params.now) }
@@ -134,7 +136,8 @@ fn colon_opaque(params: &[CsiParam]) -> Option<(ColorSpec, usize)>
     }
 }
 
-/// The colour with an alpha that the tokens after its kind and a `:` give, with `:` between them.
+/// The colour with an alpha of the form with `:` and kind 6, where `params` follow the kind and a `:`, and the form's
+/// token count.
 #[tactic(auto, unfolding(crate::specs::Rendition::colour_form))]
 fn colon_alpha(params: &[CsiParam]) -> Option<(ColorSpec, usize)>
     ensures { result ≡ colour_form (P 58 ∷ Integer (pos 6) ∷ P 58 ∷ params.now) }
@@ -155,7 +158,7 @@ fn colon_alpha(params: &[CsiParam]) -> Option<(ColorSpec, usize)>
     }
 }
 
-/// The colour that the longest form at the start of a list names, and how many tokens the form takes.
+/// The colour of the longest form at the start of a list, and how many tokens the form takes.
 #[tactic(auto, unfolding(crate::specs::Rendition::colour_form))]
 fn color_form(params: &[CsiParam]) -> Option<(ColorSpec, usize)>
     ensures form { result ≡ colour_form params.now }
@@ -196,7 +199,7 @@ fn underline_shape(params: &[CsiParam]) -> Option<(Sgr, usize)>
     Some((Sgr::Underline(Underline::Single), 1))
 }
 
-/// The setting that a number alone spells, if any.
+/// The setting that a single number encodes, if there is one.
 #[inline(always)]
 pub(crate) fn plain_code(value: i64) -> Option<Sgr>
     ensures { result ≡ plain_code value }
@@ -204,7 +207,7 @@ pub(crate) fn plain_code(value: i64) -> Option<Sgr>
     single_code(channel(value)?)
 }
 
-/// The setting that a number to 255 alone spells, if any.
+/// The setting that a single number from 0 to 255 encodes, if there is one.
 #[tactic(auto, unfolding(crate::specs::Rendition::single_code))]
 #[inline(always)]
 fn single_code(code: u8) -> Option<Sgr>

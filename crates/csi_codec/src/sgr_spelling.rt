@@ -155,7 +155,8 @@ fn put_alpha(target: u8, red: u8, green: u8, blue: u8, alpha: u8, text: &mut Seq
     *text = built;
 }
 
-/// What a colour is of, three channels, and what kind of colour they are.
+/// `ESC [`, the colour's target (38, 48 or 58), `:`, the kind of the colour, `::`, and three channels with `:` between
+/// them.
 #[inline(always)]
 fn channels_opened(target: u8, kind: u8, red: u8, green: u8, blue: u8) -> SequenceText
     ensures text { result
@@ -174,7 +175,7 @@ fn channels_opened(target: u8, kind: u8, red: u8, green: u8, blue: u8) -> Sequen
     text
 }
 
-/// What a colour is of, and what kind of colour.
+/// `ESC [`, the colour's target (38, 48 or 58), `:`, the kind of the colour, and `:`.
 #[inline(always)]
 fn color_opened(target: u8, kind: u8) -> SequenceText
     ensures text { result ≡ opened_text (number target ∷ P 58 ∷ number kind ∷ P 58 ∷ []) }

@@ -1,5 +1,5 @@
-//! What is written as a control sequence, and the texts that families share: `ESC [`, parameters and a final byte,
-//! which is ASCII.
+//! Values that are written as a control sequence (`ESC [`, parameters and an ASCII final byte), and the texts that
+//! several kinds of them share.
 ghost use Rattle.std.specs.Prelude.{◌≡◌, ◌<◌, [], Some};
 ghost use Rattle.std.specs.Fmt.{DisplaysOnOk};
 ghost use Rattle.csi_codec.specs.Parameters.{Spelled, spelled, spelled_text, sequence_text, count_tokens};
@@ -9,7 +9,7 @@ use crate::one_based::OneBased;
 use crate::text::SequenceText;
 use std::fmt;
 
-/// What is written as a control sequence: parameters and a final byte after `ESC [`.
+/// A value that is written as a control sequence: parameters and a final byte after `ESC [`.
 pub(crate) trait ControlSequence {
     ghost spelling: { Self → Spelled };
 
@@ -30,7 +30,7 @@ pub(crate) fn write_parameters<S: ControlSequence, W: fmt::Write>(
     f.write_str(text.parameters())
 }
 
-/// No parameters.
+/// Sets `text` to the sequence without parameters.
 pub(crate) fn put_final(control: u8, text: &mut SequenceText)
     requires { control < 128 }
     ensures { text.new ≡ sequence_text (spelled [] control) }
@@ -40,7 +40,7 @@ pub(crate) fn put_final(control: u8, text: &mut SequenceText)
     *text = built;
 }
 
-/// A number, always written.
+/// Sets `text` to the sequence with one number, which is always written.
 pub(crate) fn put_number(number: u32, control: u8, text: &mut SequenceText)
     requires { control < 128 }
     ensures { text.new ≡ sequence_text (spelled (number_tokens number) control) }
@@ -51,7 +51,7 @@ pub(crate) fn put_number(number: u32, control: u8, text: &mut SequenceText)
     *text = built;
 }
 
-/// A count, not written where it is 1.
+/// Sets `text` to the sequence with a count, which is not written where it is 1.
 pub(crate) fn put_count(count: u32, control: u8, text: &mut SequenceText)
     requires { control < 128 }
     ensures { text.new ≡ sequence_text (spelled (count_tokens count) control) }
@@ -63,7 +63,7 @@ pub(crate) fn put_count(count: u32, control: u8, text: &mut SequenceText)
     }
 }
 
-/// Two positions, both written.
+/// Sets `text` to the sequence with two positions, both written.
 pub(crate) fn put_pair(a: OneBased, b: OneBased, control: u8, text: &mut SequenceText)
     requires { control < 128 }
     ensures { text.new ≡ sequence_text (spelled (pair_tokens a b) control) }
@@ -76,7 +76,7 @@ pub(crate) fn put_pair(a: OneBased, b: OneBased, control: u8, text: &mut Sequenc
     *text = built;
 }
 
-/// The extent of an erasure, not written where it is 0.
+/// Sets `text` to the sequence with the extent of an erasure, which is not written where it is 0.
 pub(crate) fn put_extent(extent: u16, control: u8, text: &mut SequenceText)
     requires { control < 128 }
     ensures { text.new ≡ sequence_text (spelled (extent_tokens extent) control) }

@@ -150,13 +150,13 @@ impl SequenceText {
         unsafe { str::from_utf8_unchecked(&self.bytes[..self.len]) }
     }
 
-    /// What follows `ESC [`.
+    /// The text after `ESC [`.
     #[inline(always)]
     pub(crate) fn parameters(&self) -> &str
         requires { (parameters : List ℕ) × (self.now ≡ 27 ∷ 91 ∷ parameters) }
         ensures { result.now ≡ drop 2 self.now }
     {
-        // SAFETY: what follows two characters of ASCII is UTF-8.
+        // SAFETY: the text after two ASCII characters is UTF-8.
         unsafe { str::from_utf8_unchecked(&self.bytes[2..self.len]) }
     }
 
@@ -169,7 +169,7 @@ impl SequenceText {
     }
 }
 
-/// The digits of a number, and blanks after them.
+/// The digits of a number, and spaces after them.
 #[inline(always)]
 fn digits(number: u8) -> (u8, u8, u8)
     ensures { IsTrue (are_digits number result.0 result.1 result.2) }

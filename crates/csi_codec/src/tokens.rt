@@ -24,7 +24,7 @@ pub fn is_parameter(byte: u8) -> bool
     matches!(byte, 0x20..=0x3f)
 }
 
-/// The number whose digits have begun, with one digit more, cut at the largest.
+/// The number after one more digit, where `number` is that of the digits before, if any. It is cut at the largest.
 #[inline(always)]
 fn next_number(number: Option<u64>, byte: u8) -> u64
     requires { IsAsciiDigit byte }
@@ -99,7 +99,7 @@ impl Parameters {
         self.truncated
     }
 
-    /// One token more, where there is room.
+    /// Appends a token if there is room, and otherwise sets `truncated`.
     #[inline(always)]
     fn add(&mut self, token: CsiParam, number: Option<u64>)
         ensures { self.new ≡ with_token self.old token number }
@@ -113,7 +113,7 @@ impl Parameters {
         self.number = number;
     }
 
-    /// The last token is another number, if it was kept.
+    /// Replaces the last token by another number, if that token was kept.
     #[inline(always)]
     fn renumber(&mut self, number: u64)
         requires begun { IsSome self.old.number }
@@ -144,7 +144,7 @@ impl Parameters {
         }
     }
 
-    /// Reads the parameter bytes at the start in place of what was read before, and answers how many there are.
+    /// Forgets all tokens, reads the parameter bytes at the start of `bytes`, and returns how many there are.
     #[inline(always)]
     pub fn read(&mut self, bytes: &[u8]) -> usize
         ensures count { result ≡ prefix_len in_parameters bytes.now }
@@ -154,7 +154,7 @@ impl Parameters {
         self.push_all(bytes)
     }
 
-    /// Reads the parameter bytes at the start, and answers how many there are.
+    /// Reads the parameter bytes at the start of `bytes`, and returns how many there are.
     #[inline(always)]
     pub fn push_all(&mut self, bytes: &[u8]) -> usize
         ensures count { result ≡ prefix_len in_parameters bytes.now }

@@ -3,7 +3,7 @@ use Rattle.std.specs.Prelude.{ℕ, Bool, not, ◌&&◌, ◌||◌, nat_le, ◌==�
 use Rattle.std.specs.Char.{is_ascii_control}
 use Rattle.csi_codec.specs.Tokens.{is_parameter}
 
--- CAN, SUB and ESC: each ends what is open, and is no part of it
+-- CAN, SUB and ESC: each ends what is open, and does not belong to it
 unfoldable pub is_stop : ℕ → Bool
 is_stop b = b == 0x18 || b == 0x1A || b == 0x1B
 
@@ -35,11 +35,11 @@ is_opener b = b == 0x5B || b == 0x5D || b == 0x50 || is_string_opener b
 unfoldable pub is_cut : ℕ → Bool
 is_cut b = is_stop b || nat_le 0x80 b
 
--- within an escape sequence
+-- a byte within an escape sequence, before its final byte
 abbrev pub in_escape : ℕ → Bool
 in_escape b = is_embedded b || is_intermediate b
 
--- within a control sequence, or the header of a device control string
+-- a byte within a control sequence or the header of a device control string, before the final byte
 abbrev pub in_parameters : ℕ → Bool
 in_parameters b = is_embedded b || is_parameter b
 
@@ -47,6 +47,6 @@ in_parameters b = is_embedded b || is_parameter b
 abbrev pub ends_command : ℕ → Bool
 ends_command b = b == 0x07 || is_stop b
 
--- the controls of a list of bytes, and the other bytes
+-- the bytes of a list that are no C0 control and not DEL
 abbrev pub taken : List ℕ → List ℕ
 taken bytes = filter (λ b. not (is_ascii_control b)) bytes

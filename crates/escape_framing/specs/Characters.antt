@@ -1,4 +1,4 @@
--- What the characters' private steps show.
+-- Definitions for the private functions of `characters`.
 use Rattle.std.specs.Prelude.{◌≡◌, ◌≢◌, ℕ, true, false, List, [], ◌∷◌, ◌++◌, slice_index, is_none}
 use Rattle.std.specs.Str.{is_utf8, chars}
 use Rattle.std.specs.Str.Lossy.{utf8_error_len}
@@ -33,7 +33,7 @@ own_step own.Stray bytes = steps (dispatch.Print 0xFFFD ∷ []) (InCharacter [])
 abbrev pub segment_step : List ℕ → ℕ → Step
 segment_step bytes c = steps (dispatches_of (segment_of bytes c)) (InCharacter [])
 
--- what ESC leaves
+-- what is kept after a byte: an open escape sequence after ESC, else these bytes of a character
 abbrev pub own_kept : Own → List ℕ → Kept
 own_kept own.Escape bytes = InEscape []
 own_kept _ bytes = InCharacter bytes
@@ -41,7 +41,7 @@ own_kept _ bytes = InCharacter bytes
 abbrev pub own_dispatches : Own → List Dispatch
 own_dispatches o = (own_step o []).dispatches
 
--- what a byte hands out, where these bytes are kept then
+-- what a byte hands out, and what is kept where these bytes are held after it
 abbrev pub step_of : Own → List ℕ → Step
 step_of o bytes = steps (own_dispatches o) (own_kept o bytes)
 

@@ -43,7 +43,7 @@ reading_of bytes broken =
     else if is_none (utf8_error_len bytes) then waits (Begun bytes)
     else broken
 
--- a byte that nothing waits for
+-- a byte where no character has begun
 unfoldable pub first_byte : ℕ → Reading
 first_byte b = if b == 0x1B then waits (OpenEscape []) else reading_of (b ∷ []) (ends (IllFormed (b ∷ [])))
 
@@ -93,7 +93,7 @@ next_byte (OpenString opening opener body) b =
     if is_stop b then ends_before (String opening opener body) (first_byte b)
     else waits (OpenString opening opener (body ++ b ∷ []))
 
--- the bytes in turn
+-- the reading of the bytes after what is open
 unfoldable pub read_on : Tail → List ℕ → Reading
 read_on tail [] = waits tail
 read_on tail (b ∷ bytes) =

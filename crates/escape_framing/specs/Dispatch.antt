@@ -41,13 +41,13 @@ control_sequence_dispatch parameters final =
 unfoldable pub command_dispatch : List ℕ → ℕ → List Dispatch
 command_dispatch body ender = if ender == 0x07 || ender == 0x1B then OperatingSystemCommand (taken body) ∷ [] else []
 
--- the bytes that no other can make half of a C1 control: a C2 at the end waits for the byte after it
+-- the bytes without a C2 at the end, which waits for the byte after it: it may be half of a C1 control
 abbrev pub settled : List ℕ → List ℕ
 settled [] = []
 settled (b ∷ []) = if b == 0xC2 then [] else b ∷ []
 settled (b ∷ c ∷ bytes) = b ∷ settled (c ∷ bytes)
 
--- what is open has decided already
+-- the dispatches that are decided while this is still open
 abbrev pub decided_of : Tail → List Dispatch
 decided_of (Begun bytes) = []
 decided_of (OpenEscape body) = controls_in body

@@ -39,7 +39,7 @@ held_resumed ds held true b = record { dispatches = ds; held = held }
 held_resumed ds held false b =
     let rest = held_step held b in record { dispatches = ds ++ rest.dispatches; held = rest.held }
 
--- no text lends the character of the event
+-- the event is no character that a text can lend
 abbrev pub IsAlone : Option Event → Type 0
 IsAlone None = Unit {0}
 IsAlone (Some (Print c)) = c ≡ 0xFFFD
@@ -51,7 +51,7 @@ IsAlone (Some (Enter final)) = Unit {0}
 IsAlone (Some (Data b)) = Unit {0}
 IsAlone (Some Exit) = Unit {0}
 
--- whether something is open
+-- 1 where something is open, else 0
 abbrev pub kept_rank : Kept → ℕ
 kept_rank (InCharacter []) = 0
 kept_rank (InCharacter (b ∷ bytes)) = 1
@@ -82,8 +82,8 @@ GoesOn (InHeader header) b = is_cut b ≡ false
 GoesOn InDevice b = is_stop b ≡ false
 GoesOn InString b = is_stop b ≡ false
 
--- A byte of the stream that is left unread has read a C2 that waited, as a byte of data, or closed what was open; then
--- a C2 waits on before it where that is half of a C1 control, or breaks off a sequence.
+-- Where a byte of the stream is left unread, a C2 that waited was read as a byte of data, or what was open was closed.
+-- A C2 then waits only if it waited before, and makes a C1 control with the byte, or the byte may belong to a text.
 pub record IsHeldLeft (old : Held) (b : ℕ) (event : Option Event) (new : Held) : Type 0 where
   pub falls : rank new < rank old
   pub closed : (new.kept ≡ InCharacter []) ⊎ (new ≡ record { kept = InDevice; waiting = false })

@@ -18,7 +18,7 @@ pub data Framed : Type 0 where
 abbrev pub is_lent : ℕ → ℕ → ℕ → Bool
 is_lent start offset c = not (c == 0xFFFD) && nat_le (start + length (encode_utf8 c)) offset
 
--- a text before the rest: one with a text that begins where it ends
+-- a text before the rest, joined to the first text of the rest where that begins where it ends
 abbrev pub put_text : ℕ → List ℕ → List Framed → List Framed
 put_text from text [] = Text from text ∷ []
 put_text from text (Single d ∷ rest) = Text from text ∷ Single d ∷ rest
@@ -109,8 +109,8 @@ pub record IsCarried (start count : ℕ) (held : Held) (rest : List ℕ) : Type 
 abbrev pub IsReached : Held → Type 0
 IsReached held = (stream : List ℕ) × (held ≡ held_of stream)
 
--- After `held`, the bytes first hand out `items`, and then the items of the bytes after the first n of them, which
--- follow `after`: in each call that began where those before have been read.
+-- In every call of which `count` bytes were read and left `held`: the bytes hand out `items`, and then what the bytes
+-- after the first n of them hand out after `after`.
 pub record Frames (count : ℕ) (held : Held) (bytes : List ℕ) (items : ℕ → List Framed) (n : ℕ) (after : Held) : Type 0
   where
     pub within : n ≤ length bytes
@@ -141,7 +141,8 @@ pub record IsTextLen (bytes : List ℕ) (n : ℕ) : Type 0 where
   pub text : IsText (take n bytes)
   pub rest : BeginsNoText (drop n bytes)
 
--- whether a character at the start can be one of a text: no body is open, and its first byte is none of a sequence
+-- whether a character at the start can be one of a text: no body is open, and its first byte is no byte of an open
+-- sequence
 abbrev pub takes_text : Held → ℕ → Bool
 takes_text held b = kept_takes held.kept held.waiting b
 

@@ -145,7 +145,7 @@ interrupted InString = steps [] InString
 unfoldable pub fresh_step : Kept → ℕ → Handed
 fresh_step kept b = if b == 0xC2 then handed (interrupted kept) true else handed (kept_step kept b) false
 
--- after a step
+-- a step, and what is handed out after it
 abbrev pub handed_after : Step → Handed → Handed
 handed_after step rest = record { dispatches = step.dispatches ++ rest.dispatches; held = rest.held }
 
@@ -160,11 +160,11 @@ waiting_step kept b =
 unfoldable pub held_step : Held → ℕ → Handed
 held_step held b = if held.waiting then waiting_step held.kept b else fresh_step held.kept b
 
--- before the first byte
+-- what is held before the first byte
 abbrev pub nothing_held : Held
 nothing_held = record { kept = InCharacter []; waiting = false }
 
--- the bytes in turn
+-- what the bytes hand out in turn, and what is held after them
 unfoldable pub hand_out : Held → List ℕ → Handed
 hand_out held [] = record { dispatches = []; held = held }
 hand_out held (b ∷ bytes) =

@@ -3,7 +3,7 @@ use Rattle.std.specs.Prelude.{◌≡◌, ℕ, Bool, true, not, ◌&&◌, ◌==�
 use Rattle.std.specs.Char.{is_ascii_control}
 use Rattle.escape_framing.specs.Bytes.{is_stop, is_final}
 
--- the final byte that follows the first `count` bytes; `None` tells nothing of what follows
+-- the final byte that follows the first `count` bytes; `None` says nothing about the next byte
 abbrev pub IsLastAt : List ℕ → ℕ → Option ℕ → Type 0
 IsLastAt bytes count None = Unit {0}
 IsLastAt bytes count (Some b) = (is_final b ≡ true) × ((rest : List ℕ) × (drop count bytes ≡ b ∷ rest))

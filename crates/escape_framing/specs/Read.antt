@@ -38,7 +38,7 @@ held_after held bytes n = (hand_out held (take n bytes)).held
 abbrev pub TakesMemoryAt : Held → List ℕ → ℕ → Type 0
 TakesMemoryAt held bytes n = TakesMemory (held_after held bytes n).kept
 
--- Of the bytes, after what was held, this has been read, and now the framer shows this.
+-- After `held`, the framer has read `r` at the start of the bytes, and has the view `after`.
 pub record ReadsEvent (held : Held) (bytes : List ℕ) (r : Read) (after : Lending) : Type 0 where
   -- in a call that holds these bytes, after `count` bytes of it were read
   pub frames : (count : ℕ) → IsReached held → IsCarried 0 count held bytes
@@ -46,8 +46,8 @@ pub record ReadsEvent (held : Held) (bytes : List ℕ) (r : Read) (after : Lendi
   -- at most all of the bytes were read, and those read as a text are one
   pub within : count_of r ≤ length bytes
   pub text : IsText (take (text_of r) bytes)
-  -- where none of some bytes is read, something was closed for them, which can't go on: the rank is at most 3
+  -- where no byte is read of one or more, something that the first byte ends was closed: the rank, at most 3, falls
   pub moves : count_of r ≡ 0 → 0 < length bytes → rank after.held < rank held
-  -- where a body or a header is read after these and some more bytes, it is held after all of them
+  -- where the state after m more bytes takes memory, it is the state after all of these bytes, read from `held`
   pub opens : IsReached held → (m : ℕ) → TakesMemoryAt after.held (drop (count_of r) bytes) m
       → held_after after.held (drop (count_of r) bytes) m ≡ held_after held bytes (count_of r + m)

@@ -86,7 +86,7 @@ pub data Segment : Type 0 where
   DeviceControl : List ℕ → List ℕ → ℕ → List ℕ → Segment
   -- the opener of a string, and its body
   String : List ℕ → ℕ → List ℕ → Segment
-  -- what is open before its final byte, and goes no further
+  -- a sequence or a header that is cut off before its final byte
   CutOff : Tail → Segment
 
 -- the bytes of a segment: a BEL that ends a command belongs to it, any other end of one to the next segment
@@ -106,7 +106,7 @@ bytes_of (CutOff tail) = bytes_of_tail tail
 abbrev pub IsPrintable : ℕ → Type 0
 IsPrintable c = ((0x20 ≤ c) × (c ≤ 0x7E)) ⊎ (0x9F < c)
 
--- a C0 control but ESC, or DEL
+-- a C0 control except ESC, or DEL
 abbrev pub IsControl : ℕ → Type 0
 IsControl b = ((b < 0x20) × (b ≢ 0x1B)) ⊎ (b ≡ 0x7F)
 
@@ -118,7 +118,7 @@ IsIllFormed bytes following =
     ⊎ (IsBegun bytes
     × ((next : ℕ) × (remaining : List ℕ) × (following ≡ next ∷ remaining) × (BeginsCharacter (bytes ++ next ∷ []) → ⊥)))
 
--- what follows begins with a byte that passes the test
+-- whether the list begins with a byte that passes the test
 abbrev pub follows : (ℕ → Bool) → List ℕ → Bool
 follows test [] = false
 follows test (b ∷ bytes) = test b

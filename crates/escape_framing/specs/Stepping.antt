@@ -1,4 +1,4 @@
--- What a byte does, as the steps of a framer answer it.
+-- What a byte does, as the steps of a framer return it.
 use Rattle.std.specs.Prelude.{◌≡◌, ℕ, false}
 use Rattle.escape_framing.specs.Held.{Step, Handed}
 use Rattle.escape_framing.specs.Lending.{Lending}
@@ -13,7 +13,7 @@ as_stepped new s b = resumed (handed_out new s.event) new.held.kept s.is_read b
 abbrev pub as_advanced : Lending → Stepped → ℕ → Handed
 as_advanced new s b = held_resumed (handed_out new s.event) new.held s.is_read b
 
--- where it is left unread
+-- a byte that is left unread closes what was open
 abbrev pub Closes : Lending → Stepped → Lending → Type 0
 Closes old s new = s.is_read ≡ false → IsLeft old.held.kept s.event new.held.kept
 

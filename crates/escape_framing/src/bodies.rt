@@ -41,7 +41,7 @@ fn short_len(bytes: &[u8]) -> usize
     bytes.iter().take_while(|byte| is_body_byte(**byte)).count()
 }
 
-// How many, with the plain characters at the start in runs.
+// The count of `short_len`, where printable ASCII characters at the start are counted in runs.
 fn body_len(bytes: &[u8]) -> usize
     ensures { result ≡ prefix_len in_bodies bytes.now }
 {

@@ -8,7 +8,7 @@ ghost use Rattle.escape_framing.specs.Characters.{IsAfterBegun, IsKind, own_step
 use std::marker::Model;
 use std::str;
 
-/// What bytes are that the first ones of a character and one byte more make.
+/// What the first bytes of a character and one more byte make: a whole character, more of its first bytes, or neither.
 #[derive(Clone, Copy)]
 enum Kind {
     Whole(char),
@@ -45,7 +45,7 @@ fn kind_of(bytes: &[u8]) -> Kind
     }
 }
 
-// A byte that nothing waits for.
+// A byte where no character has begun.
 fn first(byte: u8) -> Own
     ensures { own_step result (byte ∷ []) ≡ character_step [] byte }
 {
@@ -103,7 +103,8 @@ impl Characters {
         self.count == 0
     }
 
-    /// Reads one byte more: what it is. `None`: it breaks the character that has begun, and isn't read.
+    /// Reads one more byte, and returns what it is. `None`: the byte breaks off the character that has begun, and it
+    /// isn't read.
     pub fn next(&mut self, byte: u8) -> Option<Own>
         ensures steps { IfSome result (λ own. step_of own self.new ≡ character_step self.old byte) }
         ensures goes { IfSome result (λ _. GoesOn (InCharacter self.old) byte) }

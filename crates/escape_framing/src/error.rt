@@ -8,10 +8,10 @@ use thiserror::Error;
 /// Why nothing was handed out.
 #[derive(Clone, Copy, Debug, PartialEq, Eq, Error)]
 pub enum ParseError {
-    /// An earlier call was refused memory, or what it hands out was left before its end.
+    /// An earlier call ended early: memory or a piece was refused, or its pieces were dropped before their end.
     #[error("the parser has failed")]
     Failed,
-    /// Memory was refused; each later call answers `Failed`.
+    /// Memory was refused; each later call returns `Failed`.
     #[error("out of memory")]
     Memory,
 }

@@ -6,7 +6,7 @@ mod command;
 mod runs;
 mod sequence;
 
-// What follows ESC and the byte that introduces a sequence.
+// The bytes after ESC and `introducer`, if `bytes` begin with these two.
 #[inline(always)]
 fn after_introducer(bytes: &[u8], introducer: u8) -> Option<&[u8]>
     ensures { IfSome result (λ remaining. bytes.now ≡ 0x1B ∷ introducer ∷ remaining.now) }

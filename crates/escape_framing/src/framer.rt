@@ -133,7 +133,8 @@ impl Framer {
         }
     }
 
-    // The second byte of a C1 control after its C2: ESC ends what is open, and then opens what the control does.
+    // The second byte of a C1 control after its C2, as ESC and the byte 40h below: ESC ends what is open, and the byte
+    // after it opens what the control opens.
     fn after_c1(&mut self, byte: u8) -> Result<Stepped, AllocError>
         requires waiting { self.old.held.waiting ≡ true }
         requires half { in_c1s 0xC2 byte ≡ true }
@@ -149,7 +150,7 @@ impl Framer {
         Ok(self.in_escape(Intermediates::Zero, byte - 0x40))
     }
 
-    // Another byte after a C2, which is read first; a C2 that is data hands itself out.
+    // A byte that makes no C1 control with the C2 before it. The C2 is read first; within data it is handed out.
     fn after_lead(&mut self, byte: u8) -> Result<Stepped, AllocError>
         requires waiting { self.old.held.waiting ≡ true }
         requires plain { in_c1s 0xC2 byte ≡ false }
@@ -189,7 +190,8 @@ impl Framer {
 
     // ---- Bytes of a call
 
-    // Whether a character at the start can be one of a text: no body is open, and its first byte is none of a sequence.
+    // Whether a character at the start can be one of a text: no body is open, and its first byte is no byte of an open
+    // sequence.
     fn takes_text(&self, byte: u8) -> bool
         ensures { result ≡ takes_text self.now.held byte }
     {
@@ -212,7 +214,7 @@ impl Framer {
         }
     }
 
-    // How many bytes the text at the start has; 0 where no text can begin there.
+    // How many bytes the text at the start of `bytes` has; 0 where no text can begin there.
     fn text_at(&self, byte: u8, bytes: &[u8]) -> usize
         ensures text { 0 < result → IsTextLen bytes.now result }
         ensures takes { 0 < result → takes_text self.now.held byte ≡ true }
@@ -225,7 +227,7 @@ impl Framer {
         }
     }
 
-    // Nothing is held.
+    // Forgets all that is held.
     fn clear(&mut self)
         ensures { self.new.held ≡ nothing_held }
     {
@@ -233,7 +235,8 @@ impl Framer {
         self.close();
     }
 
-    // Reads a text. Where it breaks off a character that has begun, U+FFFD comes first, and the text isn't read yet.
+    // Reads a text of `text` bytes. Where the text breaks off a character that has begun, U+FFFD is handed out first,
+    // and the text isn't read yet.
     fn read_text(&mut self, text: usize) -> Read
         ensures held { self.new.held ≡ nothing_held }
         ensures broken { begun_bytes self.old.held ≢ [] → result ≡ read_as.Bytes (Some (event.Print 0xFFFD)) 0 }
@@ -269,12 +272,12 @@ impl Framer {
         })
     }
 
-    /// Reads some bytes at the start of those of one call: a text, a run that hands nothing out, or what hands out one
-    /// event. None is read where `bytes` is empty, or where the byte at the start first ends something else, as a text
-    /// does with a character that it breaks: at most three calls in a row read none of some bytes. A text is made of
-    /// printable characters, U+0020 to U+007E and from U+00A0, but U+FFFD. Memory is taken for the body of an operating
-    /// system command and the header of a device control string alone; a framer that was refused memory is to be used
-    /// no more.
+    /// Reads bytes at the start of `bytes`: a text, a run that hands nothing out, or the bytes of one event. It reads
+    /// no byte where `bytes` is empty, or where the first byte ends something that is open, as a text ends a character
+    /// that it breaks off: at most three calls in a row read no byte of `bytes` that aren't empty. A text is made of
+    /// printable characters, U+0020 to U+007E and from U+00A0 on, except U+FFFD. Memory is taken only for the body of
+    /// an operating system command and the header of a device control string. A framer that was refused memory must not
+    /// be used again.
     pub fn next(&mut self, bytes: &[u8]) -> Result<Read, AllocError>
         ensures reads { IfOk result (λ r. ReadsEvent self.old.held bytes.now r self.new) }
         ensures memory { OnErr result (TakesMemory self.old.held.kept) }

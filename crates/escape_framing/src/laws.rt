@@ -12,15 +12,15 @@ ghost use Rattle.escape_framing.specs.Placed.{IsPlaced, placed_from, placed_disp
 ghost use Rattle.escape_framing.specs.Framed.{Framed, Text, framed, placed_after, Spells, AreSeparate};
 ghost use Rattle.escape_framing.specs.PlacedSegments.{placed_segments, LiesBetween};
 
-/// A law, which needs no call: each stream has a cut, and no other than the one that is read.
+/// A law, which needs no call: each stream has exactly one cut, which is `the_cut`.
 pub fn one_cut()
     ensures cut { (stream : List ℕ) → IsCut stream (the_cut stream).segments (tail_of stream) }
     ensures only { (stream : List ℕ) (segments : List Segment) (tail : Tail) → IsCut stream segments tail
         → (segments ≡ (the_cut stream).segments) × (tail ≡ tail_of stream) }
 {}
 
-/// A law, which needs no call: bytes are open, as a stream's last can be, exactly where there are none, or some
-/// continuation makes a longer segment of them.
+/// A law, which needs no call: bytes are open, as the last bytes of a stream can be, exactly where there are none, or
+/// some continuation makes a longer segment of them.
 pub fn open_bytes()
     ensures lengthened { (bytes : List ℕ) → IsLengthened bytes → IsOpen bytes }
     ensures open_ones { (bytes : List ℕ) → bytes ≢ [] → IsOpen bytes → IsLengthened bytes }
@@ -46,13 +46,13 @@ pub fn held_is_enough()
     ensures goes_on { (stream more : List ℕ) → held_of (stream ++ more) ≡ (hand_out (held_of stream) more).held }
 {}
 
-/// A law, which needs no call: a dispatch comes as soon as the bytes so far decide it, since after those that a stream
-/// decides two continuations have different ones.
+/// A law, which needs no call: a dispatch comes as soon as the bytes so far decide it, since after the dispatches that
+/// a stream decides, two continuations of the stream have different next dispatches.
 pub fn as_soon_as_decided()
     ensures { (stream : List ℕ) → IsUndecided stream }
 {}
 
-/// A law, which needs no call: nothing is held of a stream exactly where its segments are all of it.
+/// A law, which needs no call: nothing is held of a stream exactly where its segments contain all of its bytes.
 pub fn idle_streams()
     ensures idle { (stream : List ℕ) → held_of stream ≡ nothing_held → tail_of stream ≡ Begun [] }
     ensures whole { (stream : List ℕ) → tail_of stream ≡ Begun [] → held_of stream ≡ nothing_held }

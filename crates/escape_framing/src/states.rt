@@ -20,7 +20,7 @@ use crate::framer::Framer;
 use csi_codec::is_parameter;
 use std::alloc::AllocError;
 
-/// The intermediate bytes of an escape sequence, of more than two the first two.
+/// The intermediate bytes of an escape sequence, of which the first two are kept.
 #[derive(Clone, Copy)]
 pub(crate) enum Intermediates {
     Zero,
@@ -28,7 +28,7 @@ pub(crate) enum Intermediates {
     More(u8, u8),
 }
 
-/// What is open.
+/// What is open: characters, or a sequence or a string that ESC has begun.
 #[derive(Clone, Copy)]
 pub(crate) enum State {
     Characters,
@@ -40,7 +40,7 @@ pub(crate) enum State {
     String,
 }
 
-// One intermediate byte more.
+// The intermediate bytes with one more byte.
 fn with_intermediate(intermediates: Intermediates, byte: u8) -> Intermediates
     ensures { bytes_in result ≡ take 2 (bytes_in intermediates ++ byte ∷ []) }
 {
@@ -51,7 +51,7 @@ fn with_intermediate(intermediates: Intermediates, byte: u8) -> Intermediates
     }
 }
 
-/// What a byte hands out, and whether it was read: one that cuts something off is left for what begins after that.
+/// What a byte hands out, and whether it was read: a byte that cuts something off is left unread, for the next segment.
 #[derive(Clone, Copy)]
 pub(crate) struct Stepped {
     pub event: Option<Event>,

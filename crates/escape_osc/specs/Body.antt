@@ -1,4 +1,4 @@
--- The body of a command by its form: its bytes, and what is printed.
+-- The body of a command by its form: its bytes, and its printed text.
 use Rattle.std.specs.Prelude.{ℕ, List, ◌∷◌, ◌++◌, codes, map}
 use Rattle.std.specs.Str.Lossy.{utf8_lossy}
 use Rattle.cell_base.specs.LinkText.{link_text}
@@ -16,7 +16,7 @@ bytes_of_body (form.SelectionText selection text) =
     codes "52;" ++ (letters_of (bits_of selection) ++ semicolon ∷ base64_of text.now)
 bytes_of_body (form.Parts parts) = joined (map (λ part. part.items) parts.now)
 
--- parts that are no UTF-8 have U+FFFD in place of what is ill-formed
+-- the printed text: the bytes, with U+FFFD in place of each ill-formed sequence of bytes in a part
 abbrev pub shown_by_body : Body → List ℕ
 shown_by_body (form.Parts parts) = joined (map utf8_lossy (map (λ part. part.items) parts.now))
 shown_by_body body = bytes_of_body body

@@ -7,7 +7,7 @@ use Rattle.text_clusters.specs.Controls.{holds_c1}
 abbrev pub semicolon : ℕ
 semicolon = 59
 
--- the parts of a body, which is cut at each `;`: one more than it has of them
+-- the parts of a body, which is cut at each `;`: one more than its count of `;`
 abbrev pub parts_of : List ℕ → List (List ℕ)
 parts_of body = slice_split (λ b. b == semicolon) body
 

@@ -22,35 +22,35 @@ unfoldable pub text_reading : List (List ℕ) → Option (List ℕ)
 text_reading [] = None
 text_reading (part ∷ rest) = utf8_reading (joined (part ∷ rest))
 
--- the text that base64 (RFC 4648, section 4) spells, in canonical form
+-- the text that canonical base64 (RFC 4648, section 4) encodes
 unfoldable pub base64_reading : List ℕ → Option (List ℕ)
 base64_reading text = option_and_then utf8_reading (decoded_of standard text)
 
--- what is done to a selection: `?` asks for it, base64 sets it
+-- the command of the text after the letters: `?` asks for the selection, base64 sets it
 unfoldable pub data_reading : ℕ → List ℕ → Option Command
 data_reading bits text = if bytes_eq text (codes "?") then Some (query_selection bits)
     else option_map (set_selection bits) (base64_reading text)
 
--- letters with nothing after them
+-- the command of letters with nothing after them
 unfoldable pub clear_reading : List ℕ → Option Command
 clear_reading letters = option_map clear_selection (selection_reading letters)
 
--- letters with a text after them
+-- the command of letters with a text after them
 unfoldable pub lettered_reading : List ℕ → List ℕ → Option Command
 lettered_reading letters text = option_and_then (λ bits. data_reading bits text) (selection_reading letters)
 
--- the parts after `52`: the letters of a selection, and at most one more
+-- the command of the parts after `52`: the letters of a selection, and at most one more part
 unfoldable pub selection_command : List (List ℕ) → Option Command
 selection_command [] = None
 selection_command (letters ∷ []) = clear_reading letters
 selection_command (letters ∷ text ∷ []) = lettered_reading letters text
 selection_command (letters ∷ text ∷ more ∷ rest) = None
 
--- the parts of an OSC 8: a link, or the end of one
+-- the command of the parts of an OSC 8: a link, or the end of one
 unfoldable pub link_command : List (List ℕ) → Option Command
 link_command parts = option_map set_hyperlink (result_ok (link_reading parts))
 
--- what a code, the parts after it and all parts mean, where they fit
+-- the command of a code, the parts after it and all parts, if they fit
 unfoldable pub coded_reading : List ℕ → List (List ℕ) → List (List ℕ) → Option Command
 coded_reading code rest parts =
     if bytes_eq code (codes "0") then option_map set_icon_name_and_window_title (text_reading rest)
@@ -61,12 +61,12 @@ coded_reading code rest parts =
     else if bytes_eq code (codes "52") then selection_command rest
     else None
 
--- what all parts mean, where they fit: the first part is the code
+-- the command of all parts, if they fit: the first part is the code
 abbrev pub fitting_reading : List (List ℕ) → Option Command
 fitting_reading [] = None
 fitting_reading (code ∷ rest) = coded_reading code rest (code ∷ rest)
 
--- what parts mean: what does not fit, and any text with U+0080 to U+009F, stays as the parts
+-- the command of parts; parts that do not fit, or that hold one of U+0080 to U+009F, are unspecified
 abbrev pub osc_reading : List (List ℕ) → Command
 osc_reading parts = if any_holds_c1 parts then unspecified parts
     else unwrap_or (fitting_reading parts) (unspecified parts)

@@ -37,7 +37,7 @@ letters = lettered (codes "CLIPBOARD") 99 1  -- `c`
     ∷ lettered (codes "CUT9") 57 13
     ∷ []
 
--- the names and bits, as a flags type has them
+-- the names and bits, as the rows of a flags type
 abbrev pub flag_table : List Row
 flag_table = map (λ l. (l.name, l.bits)) letters
 
@@ -45,7 +45,7 @@ flag_table = map (λ l. (l.name, l.bits)) letters
 unfoldable pub letter_bits : ℕ → Option ℕ
 letter_bits letter = option_map (λ l. l.bits) (find (λ l. l.letter == letter) letters)
 
--- the bits of each letter together; a letter that comes again counts once, and one that none has spoils all
+-- the bits of the letters together, where a repeated letter counts once; `None` where a letter has no selection
 unfoldable pub letters_bits : List ℕ → Option ℕ
 letters_bits [] = Some 0
 letters_bits (letter ∷ rest) =
@@ -55,14 +55,14 @@ letters_bits (letter ∷ rest) =
 abbrev pub default_selection : ℕ
 default_selection = 2 ^ 3 + 2 ^ 4
 
--- the selection that letters name
+-- the selection of a list of letters
 unfoldable pub selection_reading : List ℕ → Option ℕ
 selection_reading text = if length text == 0 then Some default_selection else letters_bits text
 
--- the letter of a selection, where the bits hold it
+-- the letter of a selection, if the bits contain it
 abbrev pub letter_if_held : ℕ → Letter → List ℕ
 letter_if_held bits l = if bit_and bits l.bits == l.bits then l.letter ∷ [] else []
 
--- the letters of a selection, in their one order; bits that no letter has are not written
+-- the letters of a selection, in the order of `letters`; bits that no letter has are not written
 unfoldable pub letters_of : ℕ → List ℕ
 letters_of bits = flat_map (letter_if_held bits) letters

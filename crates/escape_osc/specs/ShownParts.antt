@@ -1,4 +1,4 @@
--- What the parts of a command's text print.
+-- How the parts of a command's text are printed.
 use Rattle.std.specs.Prelude.{ℕ, List, [], ◌∷◌, map}
 use Rattle.std.specs.Str.Lossy.{utf8_lossy, replacement_bytes}
 use Rattle.escape_osc.specs.declared.show.Base64.{Base64}
@@ -21,7 +21,7 @@ shown_part p = utf8_lossy p.0.now
 abbrev pub shown_parts : LossyParts → List ℕ
 shown_parts p = joined (map utf8_lossy (map (λ part. part.items) p.0.now))
 
--- the replacement of bytes that are no UTF-8; nothing for no bytes
+-- U+FFFD in place of one or more ill-formed bytes, and nothing in place of none
 abbrev pub replacement_of : List ℕ → List ℕ
 replacement_of [] = []
 replacement_of (b ∷ rest) = replacement_bytes

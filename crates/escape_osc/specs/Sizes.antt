@@ -1,4 +1,4 @@
--- How many bytes the text of a command has beside the text or the link that it carries.
+-- How many bytes the text of a command has besides the text or the link that it carries.
 use Rattle.std.specs.Prelude.{◌≡◌, ℕ, ◌+◌, ◌-◌, ◌*◌, ◌/◌, ◌^◌, ◌≤◌, List, length, Some, None}
 use Rattle.cell_base.specs.Link.{Link}
 use Rattle.cell_base.specs.LinkText.{params_text}
@@ -37,7 +37,7 @@ pub record SelectionsAreShort (bits : ℕ) (text : List ℕ) : Type 0 where
 abbrev pub all_selections : ℕ
 all_selections = 2 ^ 14 - 2
 
--- with all thirteen letters it is no less
+-- with all thirteen letters the bounds are reached
 pub record AllSelectionsTakeMost (text : List ℕ) : Type 0 where
   pub query : length (text_of (query_selection all_selections)) ≡ 22
   pub clear : length (text_of (clear_selection all_selections)) ≡ 20

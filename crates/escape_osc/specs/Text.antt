@@ -14,7 +14,7 @@ use Rattle.escape_osc.specs.Selection.{letters_of}
 unfoldable pub base64_of : List ℕ → List ℕ
 base64_of bytes = encode_of standard bytes
 
--- the body: the code, `;`, and what follows it
+-- the body: the code, `;`, and the text, the link, or the selection and its data; else the parts
 abbrev pub body_of : Command → List ℕ
 body_of (set_icon_name_and_window_title text) = codes "0;" ++ text
 body_of (set_icon_name text) = codes "1;" ++ text
@@ -26,7 +26,7 @@ body_of (query_selection bits) = codes "52;" ++ (letters_of bits ++ codes ";?")
 body_of (clear_selection bits) = codes "52;" ++ letters_of bits
 body_of (unspecified parts) = joined parts
 
--- the body as text: parts that are no UTF-8 have U+FFFD in place of what is ill-formed
+-- the body as text, with U+FFFD in place of each ill-formed sequence of bytes in a part
 abbrev pub shown_body : Command → List ℕ
 shown_body (unspecified parts) = joined (map utf8_lossy parts)
 shown_body command = body_of command

@@ -1,4 +1,4 @@
--- Commands that can be written: what is written for them reads back as they are, and a byte stream carries it as it is.
+-- Commands that can be written: their text reads back as the command itself, and a byte stream carries it unchanged.
 use Rattle.std.specs.Prelude.{◌≡◌, ℕ, ◌<◌, ◌-◌, ◌^◌, true, false, List, Option, None, Ok}
 use Rattle.std.specs.List.{list_any, list_all, AllByRecursion}
 use Rattle.std.specs.List.Sorted.{IsStrictlySortedBy}
@@ -32,12 +32,12 @@ pub record IsSelection (bits : ℕ) : Type 0 where
   pub named : bit_and bits (2 ^ 14 - 2) ≡ bits
   pub some : 0 < bits
 
--- a link, or the end of one, that its own text gives
+-- a link, or the end of one, that reads back equal from its own text
 abbrev pub IsReadableLink : Option Link → Type 0
 IsReadableLink link = link_reading (parts_of (text_of_link link)) ≡ Ok link
 
--- a link by value, given by a program, with a URI or parameters: keys and values that are UTF-8 and hold no sign of the
--- text, in the order of the keys
+-- a link by value, given by a program, with a URI or parameters: keys and values are UTF-8, hold no separator of the
+-- text, and are in the order of the keys
 pub record IsLink (link : Link) : Type 0 where
   pub texts : AllByRecursion (λ param. IsUtf8 param.0 × IsUtf8 param.1) link.params
   pub plain : list_all is_writable link.params ≡ true
@@ -46,8 +46,8 @@ pub record IsLink (link : Link) : Type 0 where
   pub given : link.implicit ≡ false
   pub some : is_empty_link link ≡ false
 
--- a command by value: a text that is UTF-8, a link that its text gives, selections that have letters, and parts that
--- fit no code and that a body can be cut into
+-- a command by value: a text that is UTF-8, a link that reads back from its text, selections that have letters, or
+-- parts that fit no code and that a body can be cut into
 abbrev pub HasSpelling : Command → Type 0
 HasSpelling (set_icon_name_and_window_title text) = IsUtf8 text
 HasSpelling (set_icon_name text) = IsUtf8 text

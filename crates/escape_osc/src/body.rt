@@ -1,4 +1,4 @@
-//! The body of a command: one table for what is printed and for the bytes.
+//! The body of a command, as one table for its printed text and its bytes.
 
 ghost use Rattle.std.specs.Prelude.{◌≡◌, ◌++◌, Some, OnOk, length, take};
 ghost use Rattle.escape_osc.specs.Body.{bytes_of_body, shown_by_body};
@@ -21,11 +21,11 @@ pub(crate) enum Body<'a> {
     Text(&'static str, &'a str),
     // A link.
     Link(&'a Hyperlink),
-    // The letters of selections, and what follows them.
+    // The letters of selections, and a fixed text after them.
     Selection(Selection, &'static str),
     // The letters of selections, and a text that follows them in base64.
     SelectionText(Selection, &'a str),
-    // Parts, with `;` between.
+    // Parts, joined by `;`.
     Parts(&'a [Vec<u8>]),
 }
 
@@ -52,7 +52,7 @@ impl OperatingSystemCommand {
     }
 }
 
-// The body as text: parts that are no UTF-8 have U+FFFD in place of what is ill-formed.
+// The body as text, with U+FFFD in place of each ill-formed sequence of bytes in a part.
 impl fmt::Display for Body<'_> {
     ghost output = { λ body. Some (shown_by_body body) };
 

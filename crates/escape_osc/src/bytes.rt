@@ -20,8 +20,8 @@ use std::alloc::AllocError;
 use std::collections::BTreeMap;
 
 impl OperatingSystemCommand {
-    /// Appends the bytes of the command: its text, also where the parts of an `Unspecified` are no
-    /// UTF-8. Where memory is refused, `dest` stays as it was.
+    /// Appends the bytes of the command. The parts of an `Unspecified` are appended as they are, also where
+    /// they are not UTF-8. Where memory is refused, `dest` stays as it was.
     pub fn append_bytes_to(&self, dest: &mut Vec<u8>) -> Result<(), AllocError>
         ensures ok { OnOk result (dest.new.items ≡ dest.old.items ++ text_of (command_of self.now)) }
         ensures err { OnErr result (dest.new.items ≡ dest.old.items) }
@@ -34,7 +34,7 @@ impl OperatingSystemCommand {
         result
     }
 
-    // Appends the bytes of the command; those that were appended before a refusal stay.
+    // Appends the bytes of the command. Where memory is refused, the bytes appended before stay.
     #[tactic(auto, using(crate::proofs::AppendLemmas::kept))]
     fn append_text_to(&self, dest: &mut Vec<u8>) -> Result<(), AllocError>
         ensures ok { OnOk result (dest.new.items ≡ dest.old.items ++ text_of (command_of self.now)) }
@@ -46,7 +46,8 @@ impl OperatingSystemCommand {
     }
 }
 
-// Appends the letters of a selection, in their one order. Those before a refusal stay.
+// Appends the letters of a selection, in the order of `LETTERS`. Where memory is refused, the letters appended before
+// stay.
 pub(crate) fn append_letters(selection: Selection, dest: &mut Vec<u8>) -> Result<(), AllocError>
     ensures ok { OnOk result (dest.new.items ≡ dest.old.items ++ letters_of (bits_of selection)) }
     ensures err { take (length dest.old.items) dest.new.items ≡ dest.old.items }
@@ -81,7 +82,7 @@ fn append_zeros(count: usize, dest: &mut Vec<u8>) -> Result<(), AllocError>
     dest.resize(len, 0)
 }
 
-// Writes bytes in base64 over exactly as many.
+// Writes bytes in base64 over `symbols`, which has the length of their base64.
 fn write_base64(bytes: &[u8], symbols: &mut [u8])
     requires { length symbols.old ≡ encoded_size_of standard (length bytes.now) }
     ensures { symbols.new ≡ base64_of bytes.now }
@@ -101,7 +102,7 @@ pub(crate) fn append_link(link: &Hyperlink, dest: &mut Vec<u8>) -> Result<(), Al
     dest.extend_from_slice(link.uri().as_bytes())
 }
 
-// Appends the parameters of a link, with `:` between. What was appended before a refusal stays.
+// Appends the parameters of a link, joined by `:`. Where memory is refused, what was appended before stays.
 fn append_params(params: &BTreeMap<String, String>, dest: &mut Vec<u8>) -> Result<(), AllocError>
     ensures ok { OnOk result (dest.new.items ≡ dest.old.items ++ params_text (texts_of params.now.entries)) }
     ensures err { take (length dest.old.items) dest.new.items ≡ dest.old.items }

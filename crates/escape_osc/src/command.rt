@@ -9,7 +9,7 @@ use cell_base::Hyperlink;
 use std::fmt;
 use std::rc::Rc;
 
-/// What an operating system command (OSC) asks of a terminal.
+/// An operating system command (OSC), as a request to a terminal.
 #[derive(Debug, PartialEq, Eq, Drop)]
 pub enum OperatingSystemCommand {
     /// OSC 0: sets the name of the icon and the title of the window.
@@ -18,7 +18,7 @@ pub enum OperatingSystemCommand {
     SetIconName(String),
     /// OSC 2: sets the title of the window.
     SetWindowTitle(String),
-    /// OSC 7: tells the working directory, as a URL.
+    /// OSC 7: reports the working directory, as a URL.
     CurrentWorkingDirectory(String),
     /// OSC 8: links the text that follows, or ends the link.
     SetHyperlink(Option<Rc<Hyperlink>>),
@@ -32,8 +32,8 @@ pub enum OperatingSystemCommand {
     Unspecified(Vec<Vec<u8>>),
 }
 
-/// The text of the command. The parts of an `Unspecified` that are no UTF-8 have U+FFFD in place of
-/// what is ill-formed, as `String::from_utf8_lossy` writes them.
+/// The text of the command. The parts of an `Unspecified` have U+FFFD in place of each ill-formed sequence
+/// of bytes, as `String::from_utf8_lossy` writes it.
 impl fmt::Display for OperatingSystemCommand {
     ghost output = { λ command. Some (shown_text (command_of command)) };
 

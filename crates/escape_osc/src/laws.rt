@@ -36,8 +36,8 @@ pub fn text_is_writable(text: &str)
     let _ = text;
 }
 
-/// A link of texts that hold no sign of a link's text, given by a program, is what its own text gives; so is the end of
-/// one.
+/// A link that a program builds from texts without the separators of a link's text reads back equal from its own text,
+/// and so does the end of a link.
 pub fn links_read_back()
     ensures link { (link : Link) → IsLink link → IsReadableLink (Some link) }
     ensures end_of_link { IsReadableLink None }
@@ -55,9 +55,9 @@ pub fn text_reads_back(text: &str)
 }
 
 /// The bytes of a command besides its payload: six besides a title, the name of an icon or a directory, seven besides
-/// the parameters and the URI of a link, and seven for the end of a link. A query of selections takes at most 22, a
-/// command that clears them 20, and one that sets them 21 besides the base64 of its text; exactly that many where the
-/// command names all thirteen.
+/// the parameters and the URI of a link, and seven for the end of a link. A query of selections takes at most 22 bytes,
+/// a command that clears them 20, and one that sets them 21 besides the base64 of its text; exactly that many where the
+/// command names all thirteen selections.
 pub fn text_lengths()
     ensures texts { (text : List ℕ) → TextsTakeSix text }
     ensures links { LinksTakeSeven }

@@ -1,4 +1,4 @@
-//! The parts of a command's body: joined and copied, and the characters that fit no command.
+//! The parts of a command's body: joining them, copying them, and finding C1 controls in them.
 
 ghost use Rattle.std.specs.Prelude.{◌≡◌, ◌++◌, IfOk, OnOk, length, map, take};
 ghost use Rattle.escape_osc.specs.Parts.{any_holds_c1, joined};

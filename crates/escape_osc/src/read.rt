@@ -1,4 +1,4 @@
-//! From the parts of a body to its command.
+//! Reading the parts of a body as a command.
 
 ghost use Rattle.std.specs.Prelude.{◌≡◌, map, option_map, IfOk};
 ghost use Rattle.std.specs.String.{string_bytes};
@@ -30,7 +30,7 @@ fn utf8(bytes: Vec<u8>) -> Option<String>
     }
 }
 
-// The text of the parts after a code.
+// The text of the parts after a code, joined by `;`, if there is a part and the text is UTF-8.
 #[tactic(auto, unfolding(crate::specs::Reading::text_reading))]
 fn read_text(alloc: Global, rest: &[&[u8]]) -> Result<Option<String>, AllocError>
     ensures { IfOk result (λ o. option_map string_bytes o ≡ text_reading (map (λ p. p.now) rest.now)) }
@@ -43,7 +43,7 @@ fn read_text(alloc: Global, rest: &[&[u8]]) -> Result<Option<String>, AllocError
     Ok(utf8(text))
 }
 
-// The bytes that canonical base64 spells.
+// The bytes that `text` encodes, if it is canonical base64.
 #[tactic(auto, unfolding(base64::specs::GeneralPurpose::decoded_of))]
 fn decoded(alloc: Global, text: &[u8]) -> Result<Option<Vec<u8>>, AllocError>
     ensures { IfOk result (λ o. option_map (λ v. v.items) o ≡ decoded_of standard text.now) }
@@ -55,7 +55,7 @@ fn decoded(alloc: Global, text: &[u8]) -> Result<Option<Vec<u8>>, AllocError>
     }
 }
 
-// The text that canonical base64 spells.
+// The text that `text` encodes, if it is canonical base64 of UTF-8.
 #[tactic(auto, unfolding(crate::specs::Reading::base64_reading))]
 fn read_base64(alloc: Global, text: &[u8]) -> Result<Option<String>, AllocError>
     ensures { IfOk result (λ o. option_map string_bytes o ≡ base64_reading text.now) }
@@ -66,7 +66,7 @@ fn read_base64(alloc: Global, text: &[u8]) -> Result<Option<String>, AllocError>
     }
 }
 
-// What is done to a selection.
+// The command of the text after the letters: `?` asks for the selection, base64 sets it.
 #[tactic(auto, unfolding(crate::specs::Reading::data_reading))]
 fn read_data(
     alloc: Global,
@@ -82,7 +82,7 @@ fn read_data(
     Ok(text.map(|text| OperatingSystemCommand::SetSelection(selection, text)))
 }
 
-// Letters with nothing after them.
+// The command of letters with nothing after them, which clears a selection.
 #[tactic(auto, unfolding(crate::specs::Reading::clear_reading))]
 fn read_clear(letters: &[u8]) -> Option<OperatingSystemCommand>
     ensures { option_map command_of result ≡ clear_reading letters.now }
@@ -90,7 +90,7 @@ fn read_clear(letters: &[u8]) -> Option<OperatingSystemCommand>
     Selection::from_letters(letters).map(OperatingSystemCommand::ClearSelection)
 }
 
-// Letters with a text after them.
+// The command of letters with a text after them, if they encode one.
 #[tactic(auto, unfolding(crate::specs::Reading::lettered_reading))]
 fn read_lettered(
     alloc: Global,
@@ -105,7 +105,7 @@ fn read_lettered(
     }
 }
 
-// The parts after `52`.
+// The command of the parts after `52`, if they encode one.
 #[tactic(auto, using(crate::proofs::ReadingLemmas::selection_more))]
 fn read_selection(
     alloc: Global,
@@ -120,7 +120,7 @@ fn read_selection(
     }
 }
 
-// The link of all parts.
+// The command of all parts of an OSC 8, if they encode a link or the end of one.
 #[tactic(auto, using(crate::proofs::ReadingLemmas::link_read), unfolding(crate::specs::Reading::link_command))]
 fn read_link(alloc: Global, parts: &[&[u8]]) -> Result<Option<OperatingSystemCommand>, AllocError>
     ensures { IfOk result (λ o. option_map command_of o ≡ link_command (map (λ p. p.now) parts.now)) }
@@ -134,7 +134,7 @@ fn read_link(alloc: Global, parts: &[&[u8]]) -> Result<Option<OperatingSystemCom
     Ok(Some(OperatingSystemCommand::SetHyperlink(link)))
 }
 
-// A code, the parts after it, and all parts.
+// The command of a code, the parts after it (`rest`) and all parts (`parts`), if they encode one.
 #[tactic(auto, unfolding(crate::specs::Reading::coded_reading))]
 fn read_coded(
     alloc: Global,
@@ -162,7 +162,7 @@ fn read_coded(
     }
 }
 
-// All parts, where they fit a code.
+// The command of all parts, if they fit a code.
 fn read_fitting(
     alloc: Global,
     parts: &[&[u8]],
@@ -176,9 +176,9 @@ fn read_fitting(
 }
 
 impl OperatingSystemCommand {
-    /// Reads a command from the parts of its body, which are cut at each `;`. What fits no code is
-    /// `Unspecified` with the same parts, and so is a text that holds U+0080 to U+009F. It refuses
-    /// only where memory does.
+    /// Reads a command from the parts of its body, which is cut at each `;`. Parts that fit no code are
+    /// `Unspecified` with the same parts, and so are parts that hold one of U+0080 to U+009F. It fails
+    /// only where memory is refused.
     pub fn parse(alloc: Global, parts: &[&[u8]]) -> Result<OperatingSystemCommand, AllocError>
         ensures { IfOk result (λ command. command_of command
             ≡ osc_reading (map (λ p. p.now) parts.now)) }

@@ -6,8 +6,8 @@ ghost use Rattle.escape_osc.specs.Selection.{bits_of, flag_table, letter_bits, l
 use crate::show::LETTERS;
 use bitflags::{Flag, Flags};
 
-/// A set of selections: the clipboard, the primary and the secondary selection, and the ten cut
-/// buffers of X. An OSC 52 names it by a letter for each.
+/// A set of selections: the clipboard, the primary selection, the selection that the terminal is set to
+/// use, and ten cut buffers. An OSC 52 names the set by a letter for each selection.
 #[derive(Clone, Copy, Debug, PartialEq, Eq)]
 pub struct Selection(u16);
 
@@ -119,7 +119,7 @@ impl Selection {
         None
     }
 
-    // The selections that letters name. A letter that is none makes the whole nothing.
+    // The selections of the letters together; `None` where a letter has no selection.
     #[tactic(auto, using(crate::proofs::SelectionLemmas::letters_steps))]
     fn from_each_letter(letters: &[u8]) -> Option<Selection>
         ensures { option_map bits_of result ≡ letters_bits letters.now }
@@ -134,7 +134,7 @@ impl Selection {
         Some(all)
     }
 
-    // The selections that letters name; no letter at all names SELECT and CUT0.
+    // The selections of the letters together, or SELECT and CUT0 where there is no letter.
     #[tactic(auto, unfolding(crate::specs::Selection::selection_reading))]
     pub(crate) fn from_letters(letters: &[u8]) -> Option<Selection>
         ensures { option_map bits_of result ≡ selection_reading letters.now }

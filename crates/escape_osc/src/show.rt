@@ -26,7 +26,7 @@ pub(crate) const LETTERS: [(char, Selection); 13] = [
     ('9', Selection::CUT9),
 ];
 
-// The letters of a selection, in their one order.
+// The letters of a selection, in the order of `LETTERS`.
 #[derive(Clone, Copy)]
 pub(crate) struct Letters(pub(crate) Selection);
 
@@ -56,14 +56,14 @@ impl fmt::Display for Base64<'_> {
     }
 }
 
-// U+FFFD in place of some bytes, and nothing in place of none.
+// U+FFFD in place of one or more bytes, and the empty text in place of none.
 fn replacement(invalid: &[u8]) -> &'static str
     ensures { result.now ≡ replacement_of invalid.now }
 {
     if invalid.is_empty() { "" } else { "\u{FFFD}" }
 }
 
-// Bytes with U+FFFD in place of each sequence that is no UTF-8.
+// Bytes as text, with U+FFFD in place of each ill-formed sequence.
 #[derive(Clone, Copy)]
 pub(crate) struct LossyPart<'a>(pub(crate) &'a [u8]);
 

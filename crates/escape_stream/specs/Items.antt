@@ -17,7 +17,7 @@ item_of (stream.Single a) = Single a
 abbrev pub items_of : List stream.Piece → List Item
 items_of pieces = map item_of pieces
 
--- what a call hands out of these bytes, after a stream
+-- the items that a call with these bytes hands out after a stream
 abbrev pub items : List ℕ → List ℕ → List Item
 items before bytes = items_of (stream.pieces before bytes)
 

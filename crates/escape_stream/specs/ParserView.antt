@@ -8,6 +8,6 @@ abbrev pub parsing_of : Inside → Parsing
 parsing_of p =
     record { held = p.framer.held; parameters = p.framer.parameters; body = p.framer.body; failed = p.failed }
 
--- what a parser holds that hasn't failed is held of some stream
+-- unless the parser has failed, the state that it holds is that after some stream
 abbrev pub HoldsStream : Inside → Type 0
 HoldsStream p = p.failed ≡ false → IsReached p.framer.held

@@ -8,11 +8,11 @@ use Rattle.escape_stream.specs.StreamAction.{StreamAction}
 use Rattle.escape_stream.specs.StreamActionView.{value_of}
 use Rattle.escape_stream.specs.StreamActions.{newly_decided_actions}
 
--- a step of a callback, by the value of the action that it was called at
+-- a step of a callback, by the value of the action that it was called with
 abbrev pub by_value : {F : Type 0} → (F → Action → F → Type 0) → F → StreamAction → F → Type 0
 by_value step f value f' = (a : Action) × (value_of a ≡ value) × step f a f'
 
--- the callback was called at actions of these values, one after the other, and the last call left it like this
+-- the callback was called with actions of these values, in order, and is `last` after the last call
 pub record IsCalledAt {F : Type 0} (step : F → Action → F → Type 0) (callback : F) (values : List StreamAction)
     (last : F) : Type 0 where
   pub calls : FoldsTo (by_value step) callback values last
@@ -33,13 +33,13 @@ DecidesAction stream bytes = newly_decided_actions stream bytes ≢ []
 abbrev pub Settles : List ℕ → List ℕ → Type 0
 Settles stream bytes = DecidesAction stream bytes × (tail_of (stream ++ bytes) ≡ Begun [])
 
--- the first bytes, as many as the count says, are so, and no fewer of them
+-- the first `count` bytes satisfy P, and no fewer of them do
 pub record IsShortest (P : List ℕ → Type 0) (bytes : List ℕ) (count : ℕ) : Type 0 where
   pub within : count ≤ length bytes
   pub holds : P (take count bytes)
   pub least : (fewer : ℕ) → fewer < count → P (take fewer bytes) → ⊥
 
--- the first bytes, as many as there may be, are never so
+-- no prefix of the bytes satisfies P
 abbrev pub IsNowhere : (List ℕ → Type 0) → List ℕ → Type 0
 IsNowhere P bytes = (count : ℕ) → count ≤ length bytes → P (take count bytes) → ⊥
 

@@ -1,4 +1,4 @@
--- How far a performer comes through items.
+-- Which of the items a performer has performed.
 use Rattle.std.specs.Prelude.{◌≡◌, List, ◌∷◌, ◌++◌}
 use Rattle.std.specs.List.{FoldsTo}
 use Rattle.std.specs.declared.alloc.AllocError.{AllocError}
@@ -8,7 +8,7 @@ use Rattle.escape_stream.specs.Items.{Item}
 use Rattle.escape_stream.specs.declared.perform.Halted.{Halted}
 use Rattle.escape_stream.specs.declared.perform.Halted.TheVariants as halted
 
--- some first items were performed, in order, and no more
+-- the first items, any count of them, were performed in order, and no more
 pub record PerformsSome {P : Type 0} (does : P → Item → P → Type 0) (first : P) (items : List Item) (last : P) : Type 0
   where
     pub done : List Item
@@ -34,7 +34,7 @@ HaltsAt does refuses first items halted.Failed last = PerformsSome does first it
 HaltsAt does refuses first items halted.Memory last = PerformsSome does first items last
 HaltsAt does refuses first items (halted.Refused refusal) last = StopsAt does refuses first items refusal last
 
--- as the refusal of a parser, where a performer is refused memory alone
+-- as the error of a parser, for a performer whose only refusal is refused memory
 abbrev pub parse_error : Halted AllocError → ParseError
 parse_error halted.Failed = parser.Failed
 parse_error halted.Memory = parser.Memory

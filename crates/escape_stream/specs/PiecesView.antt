@@ -1,4 +1,4 @@
--- What an iterator of pieces has yet to hand out, and of the parser that it borrows.
+-- What an iterator of pieces has yet to hand out, and the parser that it borrows.
 use Rattle.std.specs.Prelude.{◌≡◌, ◌≤◌, ◌⊎◌, ℕ, ◌+◌, ◌-◌, ◌*◌, true, false, List, [], ◌∷◌, ◌++◌, length, take, drop}
 use Rattle.std.specs.Prelude.{map, Option, Some, None, Result, Ok, Err, IfOk, OnErr}
 use Rattle.std.specs.List.{FoldsTo}
@@ -33,7 +33,7 @@ lender_of it = it.parser.ghost_name
 abbrev pub parser_of : Pieces → Parsing
 parser_of it = it.parser.now
 
--- the pieces of the bytes that weren't read yet, and before them what is left of a control sequence, in a call after
+-- the pieces of the bytes that weren't read yet, after the remaining actions of a control sequence, in a call after
 -- `start` bytes
 abbrev pub open_pieces : ℕ → Pieces → List Piece
 open_pieces start it =
@@ -50,8 +50,8 @@ pub record IsAtStart (held : Held) (bytes : List ℕ) (it : Pieces) : Type 0 whe
   pub start : it.count ≡ 0
   pub bytes_are : it.bytes.now ≡ bytes
 
--- What was read are bytes of a stream, whatever came before the call; a character that has begun in it isn't one to
--- lend.
+-- The bytes read so far end some stream, whatever came before the call. A character that has begun within the call is
+-- none that a text can lend.
 pub record IsUnderWay (it : Pieces) : Type 0 where
   pub within : it.count ≤ length it.bytes.now
   pub reached : IsReached it.parser.now.held
@@ -82,8 +82,8 @@ abbrev pub pieces_after : List ℕ → List ℕ → ℕ → List Piece
 pieces_after stream bytes n =
     pieces_of (framed_after (length stream) (length stream + n) (held_of (stream ++ take n bytes)) (drop n bytes))
 
--- Of the pieces of a call these are left where memory is taken: for the body of a command or a header that is read
--- after the bytes of all pieces before them, or for the first of them.
+-- These pieces of a call remain where memory is taken: for the body of a command or a header that is read after the
+-- bytes of all pieces before them, or for the first of them.
 abbrev pub TakesMemoryBefore : List ℕ → List ℕ → List Piece → Type 0
 TakesMemoryBefore stream bytes left =
     ((n : ℕ) × (n ≤ length bytes) × TakesMemory (held_of (stream ++ take n bytes)).kept
@@ -99,7 +99,7 @@ pub record PerformsUpToMemory {P : Type 0} (does : P → Item → P → Type 0) 
   pub performed : FoldsTo does first (items_of done) last
   pub takes : TakesMemoryBefore stream bytes left
 
--- a piece as a value
+-- a piece of the code has the value of this piece
 abbrev pub IsPiece : Piece → PieceCode → Type 0
 IsPiece (Text from text) (code.Text t) = t.now ≡ text
 IsPiece (Text from text) (code.Action a) = ⊥
@@ -125,13 +125,13 @@ abbrev pub pieces_at : ℕ → Pieces → ℕ → List Piece
 pieces_at start it offset =
     pieces_of (framed_after start (start + offset) (held_at it offset) (drop offset it.bytes.now))
 
--- there the body of a command or a header is read
+-- at this offset of the call the body of a command or a header is read
 pub record ReadsBody (it : Pieces) (offset : ℕ) : Type 0 where
   pub after : it.count ≤ offset
   pub within : offset ≤ length it.bytes.now
   pub takes : TakesMemory (held_at it offset).kept
 
--- it is read before anything is handed out: all pieces that are left come after it
+-- the body or the header is read before anything is handed out: all remaining pieces come after it
 pub record ReadsBodyFirst (it : Pieces) (offset : ℕ) : Type 0 where
   pub reads : ReadsBody it offset
   pub first : (start : ℕ) → open_pieces start it ≡ pieces_at start it offset
@@ -141,11 +141,11 @@ abbrev pub HaveSameBodies : Pieces → Pieces → Type 0
 HaveSameBodies old new = (offset : ℕ) → ReadsBody new offset
     → ReadsBody old offset × ((start : ℕ) → pieces_at start new offset ≡ pieces_at start old offset)
 
--- memory is taken for a body or a header that is read before the next piece, or for that
+-- memory is taken for a body or a header that is read before the next piece, or for the next piece itself
 abbrev pub AsksMemory : Pieces → Type 0
 AsksMemory it = ((offset : ℕ) × ReadsBodyFirst it offset) ⊎ ((start : ℕ) → FirstTakesMemory (open_pieces start it))
 
--- memory is taken for a body or a header that is read, or for any action that is to come
+-- memory is taken for a body or a header that is yet to be read, or for any remaining action
 abbrev pub AsksMemoryLater : Pieces → Type 0
 AsksMemoryLater it = ((offset : ℕ) × ReadsBody it offset) ⊎ ((start : ℕ) → SomeTakesMemory (open_pieces start it))
 
@@ -157,7 +157,7 @@ pub record HasGiven (old : Pieces) (piece : Option PieceCode) (new : Pieces) : T
   pub done : piece ≡ None → new.parser.now.held ≡ held_at_end old
   pub bodies : HaveSameBodies old new
 
--- what is left to hand out stays
+-- the remaining pieces stay the same
 pub record GoesOn (old new : Pieces) : Type 0 where
   pub same : (start : ℕ) → open_pieces start new ≡ open_pieces start old
   pub ready : IsUnderWay new
@@ -201,7 +201,7 @@ pub record Begins (old : Pieces) (event : Event) (answer : Result (Option Action
     pub over : IfOk answer (λ next. next ≡ None → new.sequence ≡ None)
     pub memory : OnErr answer (FirstTakes (event_actions (lending_in old.parser.now) event))
 
--- how often it can be read on at most
+-- the largest count of further reading steps
 abbrev pub steps_left : Pieces → ℕ
 steps_left it = 4 * (length it.bytes.now - it.count) + rank it.parser.now.held
 
@@ -215,13 +215,13 @@ IsOpen it = it.stage ≡ stage.Open
 abbrev pub IsOver : Pieces → Type 0
 IsOver it = it.stage ≡ stage.Over
 
--- while it is open, what was read are bytes of a stream, and its parser has failed
+-- while it is open, the bytes read so far end some stream, and its parser counts as failed
 abbrev pub ready_at : Stage → Pieces → Type 0
 ready_at stage.Failed it = Unit {0}
 ready_at stage.Open it = IsUnderWay it × ((parser_of it).failed ≡ true)
 ready_at stage.Over it = Unit {0}
 
--- it is open: what was read are bytes of a stream, and its parser has failed
+-- it is open: the bytes read so far end some stream, and its parser counts as failed
 pub record IsGoing (it : Pieces) : Type 0 where
   pub «open» : IsOpen it
   pub ready : IsUnderWay it
@@ -231,15 +231,15 @@ pub record IsGoing (it : Pieces) : Type 0 where
 abbrev pub IsReady : Pieces → Type 0
 IsReady it = ready_at it.stage it
 
--- What a call of `next` answers: the next piece while there is one, then that there is none, and then so again; in
--- place of a piece that memory is refused, or first of all that the parser had failed, and then nothing more.
+-- What a call of `next` returns: the next piece while there is one, and `None` from then on. It may return `Memory` in
+-- place of a piece, and it returns `Failed` first where the parser had failed; after either error it returns `None`.
 abbrev pub HandsOutPiece : Pieces → Option (Result PieceCode ParseError) → Pieces → Type 0
 HandsOutPiece old (Some (Ok piece)) new = IsOpen old × IsOpen new × HasGiven old (Some piece) new
 HandsOutPiece old (Some (Err refusal.Memory)) new = IsOpen old × IsOver new × AsksMemory old
 HandsOutPiece old (Some (Err refusal.Failed)) new = HadFailed old × IsOver new
 HandsOutPiece old None new = IsOver new × (IsOpen old → HasGiven old None new) × (HadFailed old → ⊥)
 
--- The parser has failed until the end, and then it has not.
+-- The parser counts as failed until the first `None` after its pieces; an error leaves it failed.
 abbrev pub LeavesParser : Pieces → Option (Result PieceCode ParseError) → Pieces → Type 0
 LeavesParser old (Some (Ok piece)) new = (parser_of new).failed ≡ true
 LeavesParser old (Some (Err refusal.Memory)) new = (parser_of new).failed ≡ true
@@ -248,7 +248,7 @@ LeavesParser old None new = (IsOpen old → (parser_of new).failed ≡ false) ×
 
 -- what a call of `next` does
 pub record PiecesGo (old : Pieces) (answer : Option (Result PieceCode ParseError)) (new : Pieces) : Type 0 where
-  -- it goes on with the parser that it was made of
+  -- it borrows the same parser as before
   pub same : lender_of new ≡ lender_of old
   pub items : HandsOutPiece old answer new
   pub parser : LeavesParser old answer new

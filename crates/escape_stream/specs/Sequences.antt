@@ -45,7 +45,7 @@ actions_left p (Some s) = map csi (actions_from s.offset p.tokens p.truncated s.
 abbrev pub event_actions : Lending → Event → List StreamAction
 event_actions l e = actions_of_dispatch (dispatch_in l e)
 
--- those of an event that is no control sequence
+-- the actions of an event that is not a control sequence
 abbrev pub own_actions : Lending → Event → List StreamAction
 own_actions l (event.ControlSequence control) = []
 own_actions l e = event_actions l e

@@ -29,7 +29,7 @@ actions_of_dispatch (Enter header final) = enter header final ∷ []
 actions_of_dispatch (Data b) = data_byte b ∷ []
 actions_of_dispatch Exit = exit ∷ []
 
--- what dispatches ask, in order
+-- the actions of dispatches, in order
 abbrev pub actions_of : List Dispatch → List StreamAction
 actions_of ds = flat_map actions_of_dispatch ds
 

@@ -50,17 +50,18 @@ is_string_terminator exit = false
 is_string_terminator (command c) = false
 is_string_terminator (csi a) = false
 
--- the bytes of an action after one that closed a string or did not: the terminator is not written twice
+-- the bytes of an action, where `closed` says whether the action before it closed a string: the terminator is not
+-- written twice
 abbrev pub text_after : Bool → StreamAction → List ℕ
 text_after closed a = if closed && is_string_terminator a then [] else action_text a
 
--- the bytes of actions after an action that closed a string or did not
+-- the bytes of actions, where `closed` says whether the action before them closed a string
 abbrev pub texts_after : Bool → List StreamAction → List ℕ
 texts_after closed [] = []
 texts_after closed (a ∷ remaining) = text_after closed a ++ texts_after (closes_string a) remaining
 
--- the bytes of a list of actions: their texts joined, a string terminator directly after an operating system command
--- or the end of a device control string once
+-- the bytes of a list of actions: their texts joined, where a string terminator directly after an operating system
+-- command or the end of a device control string is not written again
 abbrev pub stream_text : List StreamAction → List ℕ
 stream_text actions = texts_after false actions
 

@@ -1,4 +1,4 @@
--- Lists of actions that a byte stream can carry: what is written for them reads back.
+-- Lists of actions that a byte stream can carry: their bytes read back as the same actions.
 use Rattle.std.specs.Prelude.{◌≡◌, ◌≢◌, ℕ, ◌≤◌, ◌<◌, List, [], ◌∷◌, ◌++◌, All, map, Option, None, Some, Bool, true}
 use Rattle.std.specs.Prelude.{false, not, length, ◌&&◌, if◌then◌else◌}
 use Rattle.std.specs.Str.{IsUtf8, chars}
@@ -33,7 +33,7 @@ pub record IsPrintableText (text : List ℕ) : Type 0 where
   pub some : text ≢ []
   pub printable : All IsPrintable (chars text)
 
--- the text of the CSI action is one sequence and nothing after it, and its tokens mean that action alone
+-- the text of the CSI action is one sequence with nothing after it, and its tokens encode that action and no other
 pub record IsReadBack (a : codec.Action) : Type 0 where
   pub prefix : Prefix
   pub stands : HasPrefix (csi_text a) prefix
@@ -110,8 +110,8 @@ string_terminator = esc (pair.Code code.StringTerminator)
 abbrev pub terminator_before : Bool → Bool → List StreamAction
 terminator_before closed stands = if closed && not stands then string_terminator ∷ [] else []
 
--- a list as its bytes read: prints as characters, and a string terminator after each operating system command and
--- each end of a device control string that has none
+-- the list as which the bytes of a list are read: prints as characters, and a string terminator after each operating
+-- system command and each end of a device control string that has none
 abbrev pub read_form_after : Bool → List StreamAction → List StreamAction
 read_form_after closed [] = terminator_before closed false
 read_form_after closed (a ∷ remaining) =
@@ -126,17 +126,17 @@ HasTexts [] = Unit {0}
 HasTexts (print_string text ∷ remaining) = IsUtf8 text × HasTexts remaining
 HasTexts (a ∷ remaining) = HasTexts remaining
 
--- a list as its bytes read has the same bytes
+-- the list as which the bytes of a list are read has the same bytes
 abbrev pub ReadFormsEncodeAlike : Type 0
 ReadFormsEncodeAlike =
     (actions : List StreamAction) → HasTexts actions → stream_text (read_form actions) ≡ stream_text actions
 
--- what is written for a writable list reads back as the list, prints split into characters and string terminators added
+-- the bytes of a writable list read back as the list, with prints split into characters and string terminators added
 abbrev pub WritableListsReadBack : Type 0
 WritableListsReadBack =
     (actions : List StreamAction) → IsWritable actions → stream_actions (stream_text actions) ≡ read_form actions
 
--- and leaves no segment unfinished
+-- the bytes of a writable list leave no segment unfinished
 abbrev pub WritableListsEndWhole : Type 0
 WritableListsEndWhole = (actions : List StreamAction) → IsWritable actions → tail_of (stream_text actions) ≡ Begun []
 

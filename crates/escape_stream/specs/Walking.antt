@@ -1,4 +1,4 @@
--- Words of the private steps of a walk over the bytes of a call.
+-- Definitions for the private functions of the walk over the bytes of a call.
 use Rattle.std.specs.Prelude.{◌≡◌, ◌<◌, ℕ, true, List, [], ◌∷◌, ◌++◌, Option, Some, None, Result, Ok, Err, IfOk, IfSome}
 use Rattle.std.specs.Prelude.{OnErr}
 use Rattle.std.specs.List.{FoldsTo}
@@ -22,7 +22,7 @@ Performs does refuses first item (Err halted.Failed) last = ⊥
 Performs does refuses first item (Err halted.Memory) last = ⊥
 Performs does refuses first item (Err (halted.Refused refusal)) last = refuses first item refusal last
 
--- what the next piece was found to be, if there is one, unless memory is refused
+-- the next piece was found, if there is one, unless memory is refused
 pub record Finds (old : Reading) (answer : Result (Option PieceCode) AllocError) (new : Reading) : Type 0 where
   pub same : lender_of new ≡ lender_of old
   pub stage : new.stage ≡ old.stage
@@ -46,20 +46,20 @@ pub record HandsPiece (happens : Item → Type 0) (old new : Reading) : Type 0 w
   pub given : HasGiven old (Some piece) new
   pub performed : happens (item_handed piece)
 
--- these are pieces as values
+-- the pieces of the code have the values of these pieces
 abbrev pub ArePieces : List Piece → List PieceCode → Type 0
 ArePieces [] [] = Unit {0}
 ArePieces [] (x ∷ xs) = ⊥
 ArePieces (p ∷ ps) [] = ⊥
 ArePieces (p ∷ ps) (x ∷ xs) = IsPiece p x × ArePieces ps xs
 
--- what was handed out between two times, in each call
+-- the pieces that were handed out between two states of the iterator, in a call after `start` bytes
 pub record HandsOver (done : List PieceCode) (old new : Reading) (start : ℕ) : Type 0 where
   pub pieces : List Piece
   pub are : ArePieces pieces done
   pub whole : open_pieces start old ≡ pieces ++ open_pieces start new
 
--- a walk has come so far: the performer did what was handed out
+-- a walk has come this far: the performer performed the pieces that were handed out
 pub record Reaches {P : Type 0} (does : P → Item → P → Type 0) (old : Reading) (first : P) (new : Reading) (last : P) :
     Type 0 where
   pub done : List PieceCode

@@ -11,7 +11,7 @@ use csi_codec::{CSI, Esc};
 use escape_osc::OperatingSystemCommand;
 use std::alloc::{AllocError, Global};
 
-/// What a stream of bytes asks of a terminal, one thing at a time.
+/// One action that a stream of bytes asks of a terminal.
 #[derive(Debug, PartialEq, Eq, Drop)]
 pub enum Action {
     /// Prints a character.
@@ -50,7 +50,7 @@ impl Action {
     }
 
     /// Appends the action to `dest`. A print after a print is joined with it as one `PrintString`. Where memory is
-    /// refused, `dest` shows what it showed, and the action is dropped.
+    /// refused, `dest` keeps its value, and the action is dropped.
     pub fn append_to(self, dest: &mut Vec<Action>) -> Result<(), AllocError>
         ensures ok { OnOk result
             (map value_of dest.new.items ≡ appended (map value_of dest.old.items) (value_of self)) }
@@ -71,7 +71,7 @@ impl Action {
     }
 }
 
-/// Joins a print with the last action, if that is one too, and says whether it did.
+/// Joins a print with the last action, if that is a print too, and returns whether it did.
 fn join_last(alloc: Global, actions: &mut [Action], next: &Action) -> Result<bool, AllocError>
     ensures ok { IfOk result
         (λ joined. JoinsLast (map value_of actions.old) (value_of next.now) joined (map value_of actions.new)) }
@@ -83,7 +83,7 @@ fn join_last(alloc: Global, actions: &mut [Action], next: &Action) -> Result<boo
     }
 }
 
-/// Joins a print with the action before it, if that is one too, and says whether it did.
+/// Joins a print with the action before it, if that is a print too, and returns whether it did.
 fn join(alloc: Global, last: &mut Action, next: &Action) -> Result<bool, AllocError>
     ensures ok { IfOk result (λ joined. JoinsPair (value_of last.old) (value_of next.now) joined (value_of last.new)) }
     ensures err { OnErr result (value_of last.new ≡ value_of last.old) }
@@ -107,7 +107,7 @@ fn join(alloc: Global, last: &mut Action, next: &Action) -> Result<bool, AllocEr
     }
 }
 
-/// The characters that an action prints, after a text.
+/// Appends the characters that an action prints to a text.
 fn add_print(text: &mut String, next: &Action) -> Result<(), AllocError>
     ensures ok { OnOk result (string_bytes text.new ≡ string_bytes text.old ++ printed (value_of next.now)) }
     ensures err { OnErr result (string_bytes text.new ≡ string_bytes text.old) }

@@ -21,8 +21,8 @@ pub fn action_offsets()
         (filter (λ (p : ℕ × StreamAction). nat_lt (length stream) p.0) (placed_actions (stream ++ more))) }
 {}
 
-/// An action comes as soon as the bytes so far decide it, since after those that a stream decides two continuations
-/// have different ones.
+/// An action comes as soon as the bytes so far decide it, since after the actions that a stream decides, two
+/// continuations of the stream have different next actions.
 pub fn actions_as_soon_as_decided()
     ensures { (stream : List ℕ) → IsUndecidedAction stream }
 {}
@@ -34,9 +34,9 @@ pub fn actions_of_chunks_join()
         ≡ newly_decided_actions stream x ++ newly_decided_actions (stream ++ x) y }
 {}
 
-/// The pieces of a call, their texts character by character, are the actions of the
-/// dispatches that have their offsets in it, in order, and so those that its bytes newly decide; no text is empty, and
-/// two are adjacent only where a segment of the stream without an action lies between them.
+/// The pieces of a call, with each text as the prints of its characters, are the actions of the dispatches whose
+/// offsets lie in the call, in order, and so the actions that its bytes newly decide. No text is empty, and two texts
+/// are adjacent only where a segment of the stream without an action lies between them.
 pub fn pieces_are_actions()
     ensures placed { (stream bytes : List ℕ)
         → Spells (pieces stream bytes) (actions_of (map (λ (p : ℕ × Dispatch). p.1) (placed_from stream bytes))) }

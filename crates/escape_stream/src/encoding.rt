@@ -42,7 +42,7 @@ fn is_string_terminator(action: &Action) -> bool
     matches!(action, Action::Esc(Esc::Code(EscCode::StringTerminator)))
 }
 
-/// Appends the bytes of an action after one that closed a string or did not.
+/// Appends the bytes of an action, where `closed` says whether the action before it closed a string.
 fn append_after(closed: bool, action: &Action, bytes: &mut Vec<u8>) -> Result<(), AllocError>
     ensures { OnOk result (bytes.new.items ≡ bytes.old.items ++ text_after closed (value_of action.now)) }
 {

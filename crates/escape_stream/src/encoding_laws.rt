@@ -11,16 +11,16 @@ pub fn encoded_lists_join()
     ensures { TextsJoin }
 {}
 
-/// A list of actions whose prints are split into characters, with a `StringTerminator` after each operating system
-/// command and each end of a device control string that has none, has the same bytes: so the bytes of a list do not
-/// tell the two apart.
+/// A list of actions keeps its bytes where its prints are split into characters, and a `StringTerminator` is added
+/// after each operating system command and each end of a device control string that has none. So the bytes of a list
+/// do not tell the two lists apart.
 pub fn read_forms_encode_alike()
     ensures { ReadFormsEncodeAlike }
 {}
 
 /// The bytes of a writable list are read as its actions, with prints split into characters and a `StringTerminator`
 /// after each operating system command and each end of a device control string that has none; and no bytes of it are
-/// left unfinished. So a parser that reads what `encode` wrote hands these out.
+/// left unfinished. So a parser that reads what `encode` wrote hands these actions out.
 pub fn writable_lists_read_back()
     ensures actions { WritableListsReadBack }
     ensures whole { WritableListsEndWhole }
@@ -34,8 +34,8 @@ pub fn writable_lists_read_on()
     ensures whole { WritableListsEndOn }
 {}
 
-/// The control sequences that a spellable list of at most 256 parameters means, with a final byte from `@` to `~`, can
-/// be written: each is the one action of its own bytes. The exception is the unread rest of modes after at least one
+/// The actions of a list of at most 256 parameters that bytes can encode, with a final byte from `@` to `~`, can be
+/// written: each is the one action of its own bytes. The exception is the unread rest of modes after at least one
 /// mode, where the rest begins with `?` or the final byte is `s` or `r`.
 pub fn read_sequences_are_writable()
     ensures { ReadSequencesAreWritable }
@@ -44,8 +44,9 @@ pub fn read_sequences_are_writable()
     csi_codec::laws::texts_are_sequences();
 }
 
-/// The operating system command that is read from a body of a stream can be written. C0 controls and DEL in a body are
-/// dropped; only where one lies between the two bytes of a C1 control do these two become adjacent.
+/// The operating system command that is read from a body of a stream can be written, where the body holds no C1 control
+/// once its C0 controls and DEL are dropped. It can hold one only where a dropped control lay between the two bytes of
+/// the C1 control.
 pub fn read_commands_are_writable()
     ensures { ReadCommandsAreWritable }
 {}

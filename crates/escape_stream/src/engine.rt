@@ -129,7 +129,8 @@ impl<'p, 'a> Reading<'p, 'a> {
         }
     }
 
-    // Hands what is left to the performer, to the end or to the first that it refuses, which has been read then.
+    // Hands the remaining pieces to the performer, up to the end or up to the first that it refuses, which then counts
+    // as read.
     #[inline(never)]
     pub(crate) fn walk<P: Perform<'a>>(
         &mut self,

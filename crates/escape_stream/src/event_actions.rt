@@ -1,4 +1,4 @@
-//! The actions of events that are no control sequences.
+//! The actions of events that are not control sequences.
 ghost use Rattle.std.specs.Prelude.{◌≡◌, IfOk, OnErr, map};
 ghost use Rattle.escape_framing.specs.Lending.{Lending};
 ghost use Rattle.escape_osc.specs.CommandView.{command_of};
@@ -33,7 +33,7 @@ fn parts(alloc: Global, body: &[u8]) -> Result<Vec<&[u8]>, AllocError>
     body.split(|byte| *byte == b';').collect(alloc)
 }
 
-// The command of a body of any parts, by a list of them.
+// The command of a body of any count of parts, read from a list of them.
 #[inline(never)]
 fn command_of_all(alloc: Global, body: &[u8]) -> Result<OperatingSystemCommand, AllocError>
     ensures { IfOk result (λ c. command_of c ≡ osc_reading (parts_of body.now)) }
@@ -69,8 +69,8 @@ fn enter_action(alloc: Global, header: &[u8], byte: u8) -> Result<Action, AllocE
     Ok(Action::DeviceControl(DeviceControlMode::Enter(opening)))
 }
 
-/// The action of an event, unless it is a control sequence, or a control without a name; with the body that the framer
-/// lends.
+/// The action of an event, unless it is a control sequence, or a control without a name. `body` is the body that the
+/// framer lends.
 pub(crate) fn event_action(
     alloc: Global,
     event: Event,

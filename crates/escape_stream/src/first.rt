@@ -1,4 +1,4 @@
-//! The first action of some bytes, or all that its last byte decides.
+//! The first action of some bytes, or the actions of their shortest prefix that leaves nothing unfinished.
 ghost use Rattle.std.specs.Prelude.{◌≡◌, ◌≢◌, ◌↔◌, ℕ, true, None, IsErrOf, IfOk, OnOk, IsTrue, List, [], ◌++◌, map};
 ghost use Rattle.std.specs.Prelude.{is_err};
 ghost use Rattle.std.specs.Option.{option_map};
@@ -105,8 +105,8 @@ impl<'t> Perform<'t> for Kept {
 
 impl Parser {
     /// Reads the shortest prefix of the bytes that decides an action after the bytes that were read before, and
-    /// answers the first action and the prefix's length, 1 or more; further actions of that prefix are dropped. Where
-    /// no prefix decides one, all bytes are read, and the answer is `None`. A call that was refused memory answers
+    /// returns the first action and the prefix's length, 1 or more; further actions of that prefix are dropped. Where
+    /// no prefix decides one, all bytes are read, and the result is `None`. A call that was refused memory returns
     /// `Memory`, and each later call `Failed`, without reading.
     pub fn parse_first(&mut self, bytes: &[u8]) -> Result<Option<(Action, usize)>, ParseError>
         // Where a stream has been read, in any chunks, this is the first action that the bytes newly decide.

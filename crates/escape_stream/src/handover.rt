@@ -14,7 +14,7 @@ use crate::perform::{Halted, Perform};
 use crate::pieces::{Reading, Stage};
 
 impl<'p, 'a> Reading<'p, 'a> {
-    // Hands the pieces that are left to the performer, where they are open.
+    // Hands the remaining pieces to the performer, where the stage is open.
     fn hand_open<P: Perform<'a>>(&mut self, performer: &mut P) -> Result<(), Halted<P::Refusal>>
         requires going { IsGoing self.old }
         requires ready { P.ready performer.old }
@@ -39,22 +39,22 @@ impl<'p, 'a> Reading<'p, 'a> {
         }
     }
 
-    /// Hands what is left to the performer, as `next` would give it; nothing is left then. Where the performer refuses
-    /// one, or the parser is refused memory, the parser has failed.
+    /// Hands the remaining pieces to the performer, as `next` would return them; none remains then. Where the
+    /// performer refuses one, or the parser is refused memory, the parser has failed.
     pub fn hand_to<P: Perform<'a>>(&mut self, performer: &mut P) -> Result<(), Halted<P::Refusal>>
         requires ready { IsReady self.old }
         requires performer { P.ready performer.old }
-        // They go on with the parser that they were made of.
+        // The pieces borrow the same parser as before.
         ensures same { lender_of self.new ≡ lender_of self.old }
         ensures over { IsOver self.new }
         ensures performer { OnOk result (P.ready performer.new) }
-        // The performer did all, in order, or those before one.
+        // The performer performed all items in order, or those before the one where it halted.
         ensures done { OnOk result (FoldsTo P.does performer.old (items_to_come self.old) performer.new) }
         ensures halted { IfErr result
             (λ halted. HaltsAt P.does P.refuses performer.old (items_to_come self.old) halted performer.new) }
         // `Memory` comes only where a body, a header or an action takes memory.
         ensures memory { IsErrOf result Halted.Memory → AsksMemoryLater self.old }
-        // The performer has then done what comes before.
+        // The performer has then performed the items before that.
         ensures early { IsErrOf result Halted.Memory → WalksSome P.does self.old performer.old performer.new }
         // All bytes have then been read.
         ensures held { OnOk result (IsOpen self.old → (parser_of self.new).held ≡ held_at_end self.old) }
@@ -79,8 +79,8 @@ impl<'p, 'a> Reading<'p, 'a> {
 
 impl Parser {
     /// Reads bytes, and hands the texts and actions that they decide after those that were read before to the
-    /// performer, in order. Where it refuses one, or the parser is refused memory, those before it were performed, and
-    /// the parser has failed; each later call answers `Failed`, without reading.
+    /// performer, in order. Where the performer refuses one, or the parser is refused memory, those before it were
+    /// performed, and the parser has failed; each later call returns `Failed`, without reading.
     pub fn hand_to<'b, P: Perform<'b>>(
         &mut self,
         bytes: &'b [u8],
@@ -88,8 +88,8 @@ impl Parser {
     ) -> Result<(), Halted<P::Refusal>>
         requires { P.ready performer.old }
         ensures ready { OnOk result (P.ready performer.new) }
-        // Where a stream has been read, in any chunks, the performer did what these bytes hand out after it, or a
-        // part of it.
+        // Where a stream has been read, in any chunks, the performer performed the items that these bytes hand out
+        // after it, or the first of them.
         ensures done { OnOk result
             ((stream : List ℕ) → self.old.held ≡ held_of stream
             → FoldsTo P.does performer.old (items stream bytes.now) performer.new) }
@@ -99,13 +99,13 @@ impl Parser {
         // `Memory` comes only where these bytes take memory.
         ensures memory { IsErrOf result Halted.Memory → (stream : List ℕ) → self.old.held ≡ held_of stream
             → BytesTakeMemory stream bytes.now }
-        // The performer has then done what comes before.
+        // The performer has then performed the items before that.
         ensures early { IsErrOf result Halted.Memory → (stream : List ℕ) → self.old.held ≡ held_of stream
             → PerformsUpToMemory P.does performer.old stream bytes.now performer.new }
         // The bytes have then been read too.
         ensures held { OnOk result
             ((stream : List ℕ) → self.old.held ≡ held_of stream → self.new.held ≡ held_of (stream ++ bytes.now)) }
-        // A call fails where an earlier one ended early, and only then is that its error; nothing is done then.
+        // A call returns `Failed` exactly where an earlier one ended early; it then performs nothing.
         ensures failed { IsErrOf result Halted.Failed ↔ (self.old.failed ≡ true) }
         ensures nothing { self.old.failed ≡ true → performer.new ≡ performer.old }
         // A parser has failed once a call ended early.

@@ -9,14 +9,14 @@
 //! - `encoding_laws`: laws of the texts of actions: functions that do nothing, each ensuring one.
 //! - `engine`: the walk over the bytes of a call, which finds each text and each action and hands it to a
 //!   performer.
-//! - `event_actions`: the actions of events that are no control sequences.
+//! - `event_actions`: the actions of events that are not control sequences.
 //! - `fast`: shortcuts: one reads a command that is whole at the start of the remaining bytes without a copy, another
 //!   reads a command of few parts without a list of them.
-//! - `first`: the first action of some bytes, or all that its last byte decides.
+//! - `first`: the first action of some bytes, or the actions of their shortest prefix that leaves nothing unfinished.
 //! - `handover`: `Parser::hand_to`: hands what is read to a performer.
-//! - `parse`: the actions of bytes, called at one by one, or as a list.
+//! - `parse`: the actions of bytes, handed to a callback one by one, or as a list.
 //! - `parser`: `Parser`: reads a stream of bytes as actions.
-//! - `perform`: `Perform`: the trait of what is done with each text and action that a parser reads.
+//! - `perform`: `Perform`: the trait of performers, which act on each text and action that a parser reads.
 //! - `pieces`: the pieces of a stream: texts, which are lent from the bytes of the call, and actions.
 //! - `sequence`: the actions of a control sequence, one by one.
 #![tactic(auto)]

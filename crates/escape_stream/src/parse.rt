@@ -1,4 +1,4 @@
-//! The actions of bytes, called at one by one, or as a list.
+//! The actions of bytes, handed to a callback one by one, or as a list.
 ghost use Rattle.std.specs.Prelude.{◌≡◌, ◌↔◌, ℕ, true, None, IsErrOf, IfOk, IfSome, OnOk, List, [], ◌∷◌, ◌++◌, map};
 ghost use Rattle.std.specs.Prelude.{fold, is_err};
 ghost use Rattle.std.specs.Str.{chars};
@@ -14,7 +14,7 @@ use crate::perform::Perform;
 use escape_framing::ParseError;
 use std::alloc::{AllocError, Global};
 
-// Calls the callback at a print of each character.
+// Calls the callback with a print of each character.
 fn call_at_chars<F: FnMut(Action)>(text: &str, callback: &mut F)
     requires { F.IsAlwaysCallable callback.old }
     ensures called { IsCalledAt (λ f a f'. F.step f a tt f') callback.old (map print (chars text.now)) callback.new }
@@ -25,7 +25,7 @@ fn call_at_chars<F: FnMut(Action)>(text: &str, callback: &mut F)
     }
 }
 
-// Calls a callback at each action.
+// Calls a callback with each action.
 #[derive(Drop)]
 pub(crate) struct Calls<F> {
     callback: F,
@@ -57,7 +57,7 @@ impl<'t, F: FnMut(Action)> Perform<'t> for Calls<F> {
     }
 }
 
-// The character of a text that has one.
+// The character of a text that has exactly one.
 fn first_alone(text: &str) -> Option<char>
     ensures one { IfSome result (λ c. chars text.now ≡ c ∷ []) }
     ensures remaining { result ≡ None → (c : ℕ) → chars text.now ≡ c ∷ [] → ⊥ }
@@ -70,7 +70,7 @@ fn first_alone(text: &str) -> Option<char>
     }
 }
 
-// Appends the characters of a text, a print after a print as one.
+// Appends the prints of the characters of a text, each joined with a print before it.
 fn append_text(alloc: Global, text: &str, actions: &mut Vec<Action>) -> Result<(), AllocError>
     ensures { IfOk result
         (λ _. map value_of actions.new.items
@@ -120,16 +120,16 @@ impl<'t> Perform<'t> for Joined {
 }
 
 impl Parser {
-    /// Reads bytes, calls the callback at each action that they decide after those that were read before, in order,
-    /// and gives it back. A call that was refused memory answers `Memory`, and each later call `Failed`, without
-    /// reading.
+    /// Reads bytes, calls the callback with each action that they decide after those that were read before, in order,
+    /// and returns the callback. A call that was refused memory returns `Memory`, and each later call `Failed`,
+    /// without reading.
     pub fn parse_with<F: FnMut(Action)>(
         &mut self,
         bytes: &[u8],
         callback: F,
     ) -> Result<F, ParseError>
         requires { F.IsAlwaysCallable callback }
-        // Where a stream has been read, in any chunks, the callback is called at each action that the bytes newly
+        // Where a stream has been read, in any chunks, the callback is called with each action that the bytes newly
         // decide.
         ensures called { IfOk result
             (λ last. (stream : List ℕ) → self.old.held ≡ held_of stream
@@ -150,12 +150,12 @@ impl Parser {
         }
     }
 
-    /// Reads bytes, and calls the callback at each action that they decide after those that were read before, in
-    /// order. A call that was refused memory answers `Memory`, and each later call `Failed`, without reading. Of what
-    /// the callback borrows nothing can be proved after the call: `parse_with` gives it back.
+    /// Reads bytes, and calls the callback with each action that they decide after those that were read before, in
+    /// order. A call that was refused memory returns `Memory`, and each later call `Failed`, without reading. Nothing
+    /// can be proved after the call about what the callback borrows; `parse_with` returns the callback for that.
     pub fn parse<F: FnMut(Action)>(&mut self, bytes: &[u8], callback: F) -> Result<(), ParseError>
         requires { F.IsAlwaysCallable callback }
-        // Where a stream has been read, in any chunks, the callback is called at each action that the bytes newly
+        // Where a stream has been read, in any chunks, the callback is called with each action that the bytes newly
         // decide.
         ensures called { OnOk result
             ((stream : List ℕ) → self.old.held ≡ held_of stream
@@ -173,8 +173,8 @@ impl Parser {
         Ok(())
     }
 
-    /// Reads bytes, and answers the actions that they decide after those that were read before, joined by `append_to`.
-    /// A call that was refused memory answers `Memory`, and each later call `Failed`, without reading.
+    /// Reads bytes, and returns the actions that they decide after those that were read before, joined by `append_to`.
+    /// A call that was refused memory returns `Memory`, and each later call `Failed`, without reading.
     pub fn parse_as_vec(&mut self, bytes: &[u8]) -> Result<Vec<Action>, ParseError>
         // Where a stream has been read, in any chunks, these are the actions that the bytes newly decide.
         ensures actions { IfOk result

@@ -24,8 +24,8 @@ use std::marker::Model;
 
 /// Reads a stream of bytes, in any chunks, and hands out its actions as soon as the bytes decide them. It keeps only
 /// what is unfinished. Memory is taken for the bodies of operating system commands, the headers of device control
-/// strings, and the actions that hold these or what is left of a control sequence; once it was refused, the parser has
-/// failed.
+/// strings, and the actions that hold these, a request or the unread rest of a control sequence; once it was refused,
+/// the parser has failed.
 #[derive(Drop)]
 pub struct Parser {
     alloc: Global,
@@ -59,12 +59,13 @@ impl Parser {
         }
     }
 
-    // Where memory is taken.
+    // The allocator.
     pub(crate) fn alloc(&self) -> Global {
         self.alloc
     }
 
-    /// Whether the parser has failed: a call was refused memory, or its pieces were left before their end.
+    /// Whether the parser has failed: a call was refused memory or by its performer, or its pieces were not taken to
+    /// their end.
     pub fn is_failed(&self) -> bool
         ensures { result ≡ self.now.failed }
     {
@@ -78,7 +79,7 @@ impl Parser {
         self.framer.is_idle()
     }
 
-    // A call's pieces are yet to be handed out.
+    // Marks the parser as failed, as it is until the pieces of a call end.
     fn fail(&mut self)
         ensures { self.new ≡ record self.old { failed = true } }
     {
@@ -152,7 +153,7 @@ impl Parser {
         Ok(action)
     }
 
-    // The caller took the pieces of a call to their end.
+    // Marks the parser as not failed, after the caller took the pieces of a call to their end.
     pub(crate) fn go_on(&mut self)
         requires { IsReached self.old.held }
         ensures { self.new ≡ record self.old { failed = false } }
@@ -160,7 +161,7 @@ impl Parser {
         self.failed = false;
     }
 
-    // Lends what bytes decide.
+    // The pieces that the bytes decide after those that were read before.
     pub(crate) fn reading<'p, 'b>(&'p mut self, bytes: &'b [u8]) -> Reading<'p, 'b>
         ensures same { lender_of result ≡ self.entry.ghost_name }
         ensures pieces { (stream : List ℕ) → self.old.held ≡ held_of stream
@@ -187,16 +188,16 @@ impl Parser {
         }
     }
 
-    /// Reads bytes, and lends the texts and actions that they decide after those that were read before, in order. The
-    /// parser has failed until these were taken to their first `None`. Where it had failed before, the one item is
-    /// `Failed`.
+    /// Returns the texts and actions that the bytes decide after those that were read before, in order; texts are lent
+    /// from `bytes`. The parser counts as failed until its pieces are taken to their first `None`. Where it had failed
+    /// before, the only item is `Failed`.
     pub fn pieces<'a>(&'a mut self, bytes: &'a [u8]) -> Pieces<'a>
         ensures same { lender_of result ≡ self.entry.ghost_name }
-        // Where a stream has been read, in any chunks, what is to come is what these bytes hand out after it.
+        // Where a stream has been read, in any chunks, the pieces are those that these bytes hand out after it.
         ensures pieces { (stream : List ℕ) → self.old.held ≡ held_of stream
             → IsUnderWay result × (open_pieces (length stream) result ≡ pieces stream bytes.now)
             × (held_at_end result ≡ held_of (stream ++ bytes.now)) }
-        // The caller can take them, and they end.
+        // `next` may be called.
         ensures ready { IsReady result }
         // The pieces of a parser that had failed report it; others are open, and their parser counts as failed until
         // they end.

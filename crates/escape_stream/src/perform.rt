@@ -1,4 +1,4 @@
-//! `Perform`: the trait of what is done with each text and action that a parser reads.
+//! `Perform`: the trait of performers, which act on each text and action that a parser reads.
 ghost use Rattle.std.specs.Prelude.{◌≡◌, IfErr, OnOk};
 ghost use Rattle.escape_stream.specs.Items.{Item, Text, Single};
 ghost use Rattle.escape_stream.specs.StreamActionView.{value_of};
@@ -7,9 +7,9 @@ use crate::action::Action;
 use escape_framing::ParseError;
 use std::alloc::AllocError;
 
-/// What is done with each text and with each action by itself that a parser reads, in order.
+/// A performer: it acts on each text and each single action that a parser reads, in order.
 pub trait Perform<'t> {
-    /// Why one of them is refused.
+    /// Why a text or an action is refused.
     type Refusal: Drop;
 
     // what has to hold before a call, and holds after it
@@ -36,7 +36,7 @@ pub trait Perform<'t> {
         ensures refused { IfErr result (λ refusal. refuses self.old (Single (value_of action)) refusal self.new) };
 }
 
-/// Why not all that bytes ask for was performed.
+/// Why not all texts and actions of the bytes were performed.
 #[derive(Debug, Clone, Copy, PartialEq, Eq, Drop)]
 pub enum Halted<R> {
     /// The parser had failed: nothing was read.

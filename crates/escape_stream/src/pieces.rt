@@ -19,10 +19,10 @@ pub enum Piece<'a> {
     Action(Action),
 }
 
-/// How far a call has come.
+/// The stage of a call's pieces: not open since the parser had failed, open, or at their end.
 #[derive(Clone, Copy)]
 pub(crate) enum Stage {
-    /// The parser has failed, which is still to be answered.
+    /// The parser had failed before the call, and `next` has not returned this yet.
     Failed,
     Open,
     Over,
@@ -42,7 +42,7 @@ pub struct Reading<'p, 'a> {
     pub(crate) stage: Stage,
 }
 
-// Bytes that are a text, as one.
+// Bytes that are a text, as a `str`.
 #[inline(always)]
 fn text_of(bytes: &[u8]) -> &str
     requires { IsText bytes.now }
@@ -62,7 +62,7 @@ pub(crate) fn part(bytes: &[u8], from: usize, count: usize) -> &[u8]
 }
 
 impl<'p, 'a> Reading<'p, 'a> {
-    /// The parser that they are read by, whatever is left of them.
+    /// The parser that reads the pieces, also where some of them were not taken.
     pub fn into_parser(self) -> &'p mut Parser
         ensures same { result.ghost_name ≡ lender_of self.entry }
         ensures parser { result.now ≡ parser_of self.entry }
@@ -92,7 +92,7 @@ impl<'p, 'a> Reading<'p, 'a> {
         text_of(part(bytes, count, len))
     }
 
-    // The next item of pieces that are open.
+    // The next item, where the stage is open.
     #[inline(always)]
     fn next_open(&mut self) -> Option<Result<Piece<'a>, ParseError>>
         requires { IsGoing self.old }

@@ -1,12 +1,12 @@
 //! Examples of the library. Each module is one, and prints a section.
 //!
-//! - `recorder`: after each chunk of a program's output it keeps what a viewer needs that has read what came
-//!   before.
+//! - `recorder`: after each chunk of a program's output it keeps the bytes that bring a viewer up to date, where
+//!   the viewer has read all bytes kept before.
 //! - `screen_test`: feeds a program's output to a terminal, and compares the screen with what it should be.
 //! - `viewers`: a chain of two viewers: the first reads a terminal's updates, and the second reads patches from
 //!   the first.
-//! - `widths`: widths of one's own: in an East Asian font many characters take two columns that take one in
-//!   others.
+//! - `widths`: custom widths: in an East Asian font many characters take two columns that take one in other
+//!   fonts.
 #![tactic(auto)]
 
 mod recorder;
@@ -37,7 +37,7 @@ fn main(rt: HostRuntime) -> ExitCode {
     match run(&rt) {
         Ok(()) => ExitCode::SUCCESS,
         Err(error) => {
-            // That this can't be written either is dropped.
+            // A failure to write this message is ignored.
             let _ = eprintln!(rt; "examples: {error}");
             ExitCode::FAILURE
         }

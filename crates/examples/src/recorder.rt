@@ -1,4 +1,5 @@
-//! A recorder: after each chunk of a program's output it keeps what a viewer needs that has read what came before.
+//! A recorder: after each chunk of a program's output it keeps the bytes that bring a viewer up to date, where the
+//! viewer has read all bytes kept before.
 use std::alloc::{AllocError, Global};
 use std::fmt::Write;
 use terminal::{ProgramWidth, SequenceNo, Terminal, TerminalError};
@@ -14,12 +15,12 @@ const CHUNKS: [&[u8]; 4] = [
 /// What a viewer reads next.
 #[derive(Drop)]
 struct Frame {
-    /// How many changes it has seen then.
+    /// How many changes the viewer has seen once it has read the bytes.
     number: SequenceNo,
     bytes: Vec<u8>,
 }
 
-// Feeds a chunk, and looks at the screen: the frame for a viewer that has seen the changes before a number.
+// Feeds a chunk, and returns the frame for a viewer that has seen the changes before the number `seen`.
 fn next_frame(
     terminal: &mut Terminal<ProgramWidth>,
     chunk: &[u8],
@@ -45,7 +46,7 @@ fn record(alloc: Global) -> Result<Vec<Frame>, TerminalError> {
     Ok(frames)
 }
 
-// The rows that a viewer shows which has read some frames.
+// The rows that a viewer shows after it has read the frames.
 fn play(alloc: Global, frames: &[Frame]) -> Result<String, TerminalError> {
     let mut viewer = Terminal::new(alloc, 16, 2, ProgramWidth)?;
     for frame in frames {

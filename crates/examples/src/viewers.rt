@@ -32,7 +32,7 @@ impl Chain {
         })
     }
 
-    // Sends the first viewer the terminal's changes that it hasn't seen; answers how many bytes that took.
+    // Sends the first viewer the terminal's changes that it hasn't seen; returns how many bytes that took.
     fn encode_update(&mut self) -> Result<usize, TerminalError> {
         let (number, bytes) = self.terminal.update(self.seen)?;
         self.near.feed(&bytes)?;
@@ -40,8 +40,8 @@ impl Chain {
         Ok(bytes.len())
     }
 
-    // Sends the second viewer what it doesn't show yet of the first; answers how many bytes that took. A patch asks for
-    // a viewer of the same size that hasn't failed, and any other is sent the whole screen.
+    // Sends the second viewer what it doesn't show yet of the first; returns how many bytes that took. A patch needs a
+    // viewer of the same size that hasn't failed; any other viewer is sent the whole screen.
     fn send_patch(&mut self) -> Result<usize, TerminalError> {
         let is_same_size = self.far.surface().dimensions() == self.near.surface().dimensions();
         let (_, bytes) = if is_same_size && !self.far.is_failed() {

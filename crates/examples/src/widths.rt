@@ -1,4 +1,4 @@
-//! Widths of one's own: in an East Asian font many characters take two columns that take one in others.
+//! Custom widths: in an East Asian font many characters take two columns that take one in other fonts.
 use std::alloc::Global;
 use std::fmt::Write;
 use terminal::{ProgramWidth, Terminal, TerminalError, Widths};
@@ -25,7 +25,7 @@ impl Widths for EastAsianWidth {
 /// The Greek letters, the sign between them and the section sign are ambiguous.
 const TEXT: &str = "α + β ≠ γ, see § 7";
 
-// The rows of a terminal of some widths that was fed the text.
+// The rows of a terminal with these widths that was fed the text.
 fn rows_of<W: Widths + Drop>(alloc: Global, widths: W) -> Result<String, TerminalError> {
     let mut terminal = Terminal::new(alloc, 14, 2, widths)?;
     terminal.feed(TEXT.as_bytes())?;
@@ -33,7 +33,7 @@ fn rows_of<W: Widths + Drop>(alloc: Global, widths: W) -> Result<String, Termina
     Ok(terminal.surface().screen_chars_to_string()?)
 }
 
-/// Shows the text in the standard widths, and beside it in these.
+/// Shows the text in the standard widths, and beside it in East Asian widths.
 pub fn example(alloc: Global, page: &mut String) -> Result<(), TerminalError> {
     page.push_str("\nWidths of one's own\n\n")?;
     let standard = rows_of(alloc, ProgramWidth)?;

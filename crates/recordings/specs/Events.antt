@@ -1,4 +1,4 @@
--- What a line of a recording says: asciicast, versions 2 and 3.
+-- The event that a line of a recording has: asciicast, versions 2 and 3.
 use Rattle.std.specs.Prelude.{Bool, ℕ, ◌==◌, List, Option, Some, None, Result, Ok, Err, codes, length, nat_lt}
 use Rattle.std.specs.Prelude.{option_and_then, if◌then◌else◌}
 use Rattle.std.specs.List.{after_first, before_first, position_or_len}
@@ -13,24 +13,25 @@ use Rattle.recordings.specs.declared.fault.Fault.TheVariants.{Code, Data, Size, 
 abbrev pub json_of : List ℕ → Option Json
 json_of line = if is_utf8 line then document line else None
 
--- bytes come from the application, or the terminal has another size
+-- the application writes bytes, or the terminal takes a new size
 pub data Act : Type 0 where
   Output : List ℕ → Act
   Resize : ℕ → ℕ → Act
 
--- at its time, in microseconds from the beginning; in a line of version 3 from the event before it
+-- an act at its time, in microseconds from the beginning
 pub record Event : Type 0 where
   pub time : ℕ
   pub act : Act
 
--- what a line says; nothing is done for other codes of events than `o` and `r`
+-- the time and the act of a line, the time in microseconds: in version 2 from the beginning, in version 3 from the
+-- event before it; no act where the event's code is neither `o` nor `r`
 pub record Entry : Type 0 where
   pub time : ℕ
   pub act : Option Act
 
--- ---- what is done
+-- ---- acts
 
--- the columns and the rows
+-- a resize, where both columns and rows are known
 abbrev pub sized : Option ℕ → Option ℕ → Option Act
 sized None rows = None
 sized (Some width) None = None
@@ -54,7 +55,7 @@ abbrev pub resize_in : Option Act → Result (Option Act) Fault
 resize_in None = Err Size
 resize_in (Some act) = Ok (Some act)
 
--- by the code of the event
+-- the act of an event, by its code and its text
 unfoldable pub act_in : List ℕ → Option (List ℕ) → Result (Option Act) Fault
 act_in code text =
     if bytes_eq code (codes "o") then output_in text

@@ -1,4 +1,4 @@
--- What the code's first lines hold.
+-- The header that a `Head` of the code holds.
 use Rattle.recordings.specs.Recordings as value
 use Rattle.recordings.specs.declared.header.Head.{Head}
 use Rattle.recordings.specs.declared.header.Head.TheVariants.{Bad, Bytes, Recorded}

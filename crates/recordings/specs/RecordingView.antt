@@ -1,4 +1,4 @@
--- What the code's readings and recordings hold.
+-- What a `Reader` and a `Recording` of the code hold.
 use Rattle.std.specs.Prelude.{map}
 use Rattle.recordings.specs.EventView.{event_of}
 use Rattle.recordings.specs.Recordings as value

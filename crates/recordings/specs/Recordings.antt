@@ -16,13 +16,14 @@ use Rattle.recordings.specs.declared.header.Version.TheVariants.{Two, Three}
 
 -- ---- the header
 
--- what a first line is: no header, one that is wrong, or one of a version, with columns and rows
+-- a first line: no header (the bytes of an application), a header that is wrong, or a header of a version, with columns
+-- and rows
 pub data Head : Type 0 where
   Bytes : Head
   Bad : Fault → Head
   Recorded : Version → ℕ → ℕ → Head
 
--- the number of the member of that name
+-- the number of the member `name`, if it has one that `read` reads
 abbrev pub member_of : (List ℕ → Option ℕ) → List ℕ → Json → Option ℕ
 member_of read name value = option_and_then read (option_and_then as_number (get name value))
 
@@ -31,12 +32,12 @@ head_of_size version None height = Bad HeaderSize
 head_of_size version (Some width) None = Bad HeaderSize
 head_of_size version (Some width) (Some height) = Recorded version width height
 
--- version 2 has its size as width and height
+-- version 2 has the size in `width` and `height`
 abbrev pub second_head : Json → Head
 second_head header =
     head_of_size Two (member_of size_of (codes "width") header) (member_of size_of (codes "height") header)
 
--- version 3 has it as cols and rows of a member term
+-- version 3 has the size in `cols` and `rows` of the member `term`
 abbrev pub term_head : Option Json → Head
 term_head None = Bad HeaderSize
 term_head (Some term) =
@@ -52,7 +53,8 @@ abbrev pub head_in : Option Json → Head
 head_in None = Bytes
 head_in (Some header) = head_by (member_of count_of (codes "version") header) header
 
--- a first line is a header where it is an object with a member version that is a number, and else some bytes
+-- a first line is a header where it is an object with a member `version` that is a number, and else bytes of an
+-- application
 unfoldable pub head_of : List ℕ → Head
 head_of line = head_in (json_of line)
 
@@ -61,18 +63,18 @@ head_of line = head_in (json_of line)
 -- what was read of a recording so far
 pub record Reader : Type 0 where
   pub version : Version
-  -- that of the last event
+  -- the time of the last event
   pub time : ℕ
   pub events : List Event
   pub fault : Option BadLine
 
--- an empty line, and a comment in version 3, which begins with `#`
+-- whether a line is skipped: an empty line, and in version 3 a comment, which begins with `#`
 abbrev pub is_passed_over : Version → List ℕ → Bool
 is_passed_over Two line = length line == 0
 is_passed_over Three line = (length line == 0) || (slice_index line 0 == 35)
 
--- the time after an event whose line has a time, from the time before it: of version 2 one at which nothing is done is
--- passed over, and in version 3 each goes on from the one before it
+-- the time after a line, from the time before it and the line's own time: in version 2 the line's time, except that a
+-- line without an act leaves the time as it is; in version 3 the sum of both
 abbrev pub time_after : Version → ℕ → ℕ → Bool → Result ℕ Fault
 time_after Two before time false = Ok before
 time_after Two before time true = if nat_le before time then Ok time else Err Back
@@ -99,20 +101,20 @@ abbrev pub with_value : ℕ → Option Json → Reader → Reader
 with_value number None reading = with_fault number NotJson reading
 with_value number (Some event) reading = with_entry number (entry_in event) reading
 
--- the line of a number is read; none is after a fault
+-- a reader after the line with this number; after a fault no line is read
 unfoldable pub line_read : ℕ → Reader → List ℕ → Reader
 line_read number reading line =
     if is_some reading.fault || is_passed_over reading.version line then reading
     else with_value number (json_of line) reading
 
--- lines, of which the first has a number
+-- a reader after lines, of which the first has this number
 abbrev pub lines_read : ℕ → Reader → List (List ℕ) → Reader
 lines_read number reading [] = reading
 lines_read number reading (line ∷ lines) = lines_read (number + 1) (line_read number reading line) lines
 
 -- ---- the whole
 
--- the size at first, what happens in turn, and the line that is wrong, after which nothing was read
+-- the size at first, the events in turn, and the line that is wrong, if one is, after which nothing was read
 pub record Recording : Type 0 where
   pub width : ℕ
   pub height : ℕ
@@ -130,12 +132,12 @@ abbrev pub recording_read : ℕ → ℕ → Reader → Recording
 recording_read width height reading =
     record { width = width; height = height; events = reading.events; fault = reading.fault }
 
--- the bytes of an application, all of them at the beginning
+-- a recording of the bytes of an application, all of them written at the beginning
 abbrev pub bytes_recording : ℕ → ℕ → List ℕ → Recording
 bytes_recording width height input =
     record { width = width; height = height; events = record { time = 0; act = Output input } ∷ []; fault = None }
 
--- nothing is known but what is wrong with the header
+-- a recording whose header is wrong, without events
 abbrev pub bad_recording : ℕ → ℕ → Fault → Recording
 bad_recording width height fault =
     record { width = width; height = height; events = []; fault = Some (record { line = 1; fault = fault }) }
@@ -151,6 +153,6 @@ abbrev pub recording_in : ℕ → ℕ → List ℕ → List (List ℕ) → Recor
 recording_in width height input [] = bytes_recording width height input
 recording_in width height input (line ∷ lines) = recording_by (head_of line) width height input lines
 
--- the recording that an input is; the size is that of an input without a header
+-- the recording in an input; the width and the height are for an input without a header
 unfoldable pub recording_of : ℕ → ℕ → List ℕ → Recording
 recording_of width height input = recording_in width height input (lines_of input)

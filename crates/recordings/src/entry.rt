@@ -1,4 +1,4 @@
-//! A line of a recording, read: its time, and what is done.
+//! A line of a recording, read: its time and its act.
 ghost use Rattle.std.specs.Prelude.{◌≡◌, IfOk, option_and_then, option_map};
 ghost use Rattle.json.specs.Find.{as_number, at};
 ghost use Rattle.json.specs.Value.{value_view};
@@ -13,14 +13,14 @@ use json::{Error, Scratch, Value};
 use std::alloc::{AllocError, Global};
 use std::str;
 
-/// What is done, as a line has it.
+/// The act of a line.
 #[derive(Clone, Copy, Debug)]
 pub(crate) enum LineAct<'a> {
     Output(&'a str),
     Resize(Size),
 }
 
-/// The time of a line, and what is done, unless its code is another one than `o` or `r`.
+/// The time of a line in microseconds, and its act, which only lines of the codes `o` and `r` have.
 #[derive(Clone, Copy, Debug)]
 pub(crate) struct Entry<'a> {
     pub(crate) time: u64,
@@ -78,7 +78,7 @@ fn resize_in(text: Option<&str>) -> Result<Option<LineAct<'_>>, Fault>
     }
 }
 
-// What is done, by the code of the event and its text.
+// The act of an event, by its code and its text.
 #[tactic(auto, unfolding(crate::specs::Events::act_in))]
 fn act_in<'a>(code: &str, text: Option<&'a str>) -> Result<Option<LineAct<'a>>, Fault>
     ensures { result_of (option_map line_act_of) result ≡ act_in code.now (option_map (λ t. t.now) text.entry) }
@@ -90,21 +90,21 @@ fn act_in<'a>(code: &str, text: Option<&'a str>) -> Result<Option<LineAct<'a>>, 
     }
 }
 
-// An item of an event that is a text.
+// An item of an event, if it is a text.
 fn text_at<'a>(event: &Value<'a>, index: usize) -> Option<&'a str>
     ensures { option_map (λ t. t.now) result ≡ text_at index (value_view event.now) }
 {
     event.at(index)?.as_str()
 }
 
-// The first item of an event, where it is a time.
+// The first item of an event, if it is a time.
 fn time_in(event: &Value<'_>) -> Option<u64>
     ensures { result ≡ option_and_then time_of (option_and_then as_number (at 0 (value_view event.now))) }
 {
     time_of(event.at(0)?.as_number()?)
 }
 
-/// What an event says.
+/// The time and the act of an event.
 #[tactic(auto, unfolding(crate::specs::Events::entry_in))]
 pub(crate) fn entry_in<'a>(event: &Value<'a>) -> Result<Entry<'a>, Fault>
     ensures { result_of entry_of result ≡ entry_in (value_view event.now) }

@@ -1,7 +1,7 @@
-//! `Event`: what happens to a terminal, and when.
+//! `Event`: an output of the application or a resize of the terminal, and its time.
 use crate::size::Size;
 
-/// What is done.
+/// An output of the application, or a resize.
 #[derive(Debug, Drop)]
 pub enum Act {
     /// The application writes bytes.
@@ -10,11 +10,11 @@ pub enum Act {
     Resize(Size),
 }
 
-/// What is done at a time.
+/// An act at a time.
 #[derive(Debug, Drop)]
 pub struct Event {
     /// Microseconds from the beginning, below 2^63.
     pub time: u64,
-    /// What is done.
+    /// The output or the resize.
     pub act: Act,
 }

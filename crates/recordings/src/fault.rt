@@ -1,7 +1,7 @@
-//! What may be wrong with a recording.
+//! Faults of a recording.
 use thiserror::Error;
 
-/// What is wrong with a line.
+/// The fault of a line.
 #[derive(Clone, Copy, Debug, PartialEq, Eq, Error)]
 pub enum Fault {
     /// The header's version is neither 2 nor 3.
@@ -36,8 +36,8 @@ pub enum Fault {
 /// A line that is wrong.
 #[derive(Clone, Copy, Debug, PartialEq, Eq)]
 pub struct BadLine {
-    /// Its number, counted from 1.
+    /// The line's number, counted from 1.
     pub line: usize,
-    /// What is wrong with it.
+    /// The line's fault.
     pub fault: Fault,
 }

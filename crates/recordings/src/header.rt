@@ -23,10 +23,10 @@ pub(crate) enum Version {
     Three,
 }
 
-/// What a first line is.
+/// The first line of an input.
 #[derive(Clone, Copy, Debug, PartialEq, Eq)]
 pub(crate) enum Head {
-    /// No header.
+    /// No header: the input is the bytes of an application.
     Bytes,
     /// A header that is wrong.
     Bad(Fault),
@@ -53,7 +53,7 @@ fn head_of_size(version: Version, width: Option<usize>, height: Option<usize>) -
     }
 }
 
-// Version 2 has its size as width and height.
+// Version 2 has the size in `width` and `height`.
 fn second_head(header: &Value<'_>) -> Head
     ensures { head_value result ≡ second_head (value_view header.now) }
 {
@@ -61,7 +61,7 @@ fn second_head(header: &Value<'_>) -> Head
     head_of_size(Version::Two, width, size_in(header, "height"))
 }
 
-// Version 3 has it as cols and rows of a member term.
+// Version 3 has the size in `cols` and `rows` of the member `term`.
 fn third_head(header: &Value<'_>) -> Head
     ensures { head_value result ≡ term_head (get (codes "term") (value_view header.now)) }
 {
@@ -90,7 +90,7 @@ fn head_in(header: &Value<'_>) -> Head
     }
 }
 
-/// Reads a first line: a header where it is an object of JSON with a member version that is a number.
+/// Reads a first line: it is a header where it is an object of JSON with a member `version` that is a number.
 #[tactic(auto, unfolding(crate::specs::Recordings::head_of))]
 pub(crate) fn read_head(alloc: Global, line: &[u8]) -> Result<Head, AllocError>
     ensures { IfOk result (λ head. head_value head ≡ head_of line.now) }

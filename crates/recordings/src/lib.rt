@@ -1,11 +1,11 @@
 //! Recordings of terminals: asciicast, versions 2 and 3, and the bytes of an application as they are.
 //!
-//! - `entry`: a line of a recording, read: its time, and what is done.
-//! - `event`: `Event`: what happens to a terminal, and when.
-//! - `fault`: what may be wrong with a recording.
+//! - `entry`: a line of a recording, read: its time and its act.
+//! - `event`: `Event`: an output of the application or a resize of the terminal, and its time.
+//! - `fault`: faults of a recording.
 //! - `header`: the header of a recording.
 //! - `laws`: laws of recordings, as the contracts of functions that do nothing.
-//! - `numerals`: the times and the counts that texts write.
+//! - `numerals`: times and counts, read from decimal numerals.
 //! - `reader`: a recording that is read line by line.
 //! - `recording`: `Recording`: the size and the events of a terminal, read from an input.
 //! - `size`: the size of a terminal.

@@ -1,11 +1,11 @@
-//! The times and the counts that texts write.
+//! Times and counts, read from decimal numerals.
 ghost use Rattle.std.specs.Prelude.{◌≡◌, ◌≤◌, ◌<◌, IfSome, min, take};
 ghost use Rattle.recordings.specs.Numerals.{count_of, greatest, micro_point, micros, most_digits, number_after};
 ghost use Rattle.recordings.specs.Numerals.{number_of, size_of, time_of, zeros};
 
 use fast_float::Numeral;
 
-// The number that decimal digits write after those of another one, or the greatest.
+// The number of the decimal digits of `value` and some more after them, at most `u64::MAX`.
 fn with_digits(value: u64, digits: &[u8]) -> u64
     ensures { result ≡ min (number_after value digits.now) greatest }
 {
@@ -17,7 +17,7 @@ fn with_digits(value: u64, digits: &[u8]) -> u64
     value
 }
 
-// How many digits precede the point of the microseconds.
+// How many digits of a number of seconds are before the decimal point once it is in microseconds, at most `u64::MAX`.
 fn micro_point(numeral: &Numeral<'_>) -> u64
     ensures { result ≡ min (micro_point numeral.now) greatest }
 {
@@ -34,14 +34,14 @@ const MOST_DIGITS: u64 = 19;
 
 const ZEROS: [u8; 19] = *b"0000000000000000000";
 
-// The first digits, as many as asked for or all.
+// The first `count` digits, or all.
 fn first(digits: &[u8], count: usize) -> &[u8]
     ensures { result.now ≡ take count digits.now }
 {
     &digits[..count.min(digits.len())]
 }
 
-// The microseconds of a number of seconds, or the greatest number.
+// The microseconds of a number of seconds, at most `u64::MAX`; `point` of its digits are before their decimal point.
 #[tactic(auto, unfolding(crate::specs::Numerals::micros))]
 fn micros(numeral: &Numeral<'_>, point: usize) -> u64
     requires point { point ≡ micro_point numeral.now }
@@ -57,8 +57,8 @@ fn micros(numeral: &Numeral<'_>, point: usize) -> u64
 
 const TOO_LATE: u64 = 1 << 63;
 
-/// The microseconds of a text that is a decimal number of seconds from 0 on, with or without an exponent; further
-/// digits are cut. None of any other text, and none from 2^63 on.
+/// The microseconds of a text that is a decimal number of seconds from 0 on, with or without an exponent; fractions of
+/// a microsecond are cut off. `None` for any other text, and from 2^63 microseconds on.
 #[tactic(auto, unfolding(crate::specs::Numerals::time_of))]
 pub fn time_of(text: &str) -> Option<u64>
     ensures { result ≡ time_of text.now }
@@ -79,7 +79,7 @@ pub fn time_of(text: &str) -> Option<u64>
     }
 }
 
-/// The number of a text that is digits and nothing else, or the greatest.
+/// The number of a text that is digits and nothing else, at most `u64::MAX`; `None` for any other text.
 #[tactic(auto, unfolding(crate::specs::Numerals::count_of))]
 pub(crate) fn count_of(text: &str) -> Option<u64>
     ensures { result ≡ count_of text.now }

@@ -14,18 +14,18 @@ use crate::header::Version;
 use json::{Scratch, Value};
 use std::alloc::{AllocError, Global};
 
-/// What was read so far.
+/// The part of a recording that was read so far.
 #[derive(Drop)]
 pub(crate) struct Reader {
     pub(crate) version: Version,
-    /// That of the last event.
+    /// The time of the last event, in microseconds.
     pub(crate) time: u64,
     pub(crate) events: Vec<Event>,
     /// The line that is wrong, after which nothing is read.
     pub(crate) fault: Option<BadLine>,
 }
 
-// An empty line, and a comment in version 3.
+// Whether a line is skipped: an empty line, and in version 3 a comment, which begins with `#`.
 fn is_passed_over(version: Version, line: &[u8]) -> bool
     ensures { result ≡ is_passed_over version line.now }
 {
@@ -37,7 +37,8 @@ fn is_passed_over(version: Version, line: &[u8]) -> bool
 
 const TOO_LATE: u64 = 1 << 63;
 
-// The time after an event whose line has a time, from the time before it.
+// The time after a line, from the time before it and the line's own time: in version 2 the line's time, if it has an
+// act; in version 3 the sum of both.
 fn time_after(version: Version, before: u64, time: u64, is_done: bool) -> Result<u64, Fault>
     ensures { result ≡ time_after version before time is_done }
 {
@@ -70,7 +71,7 @@ fn act_of(alloc: Global, act: LineAct<'_>) -> Result<Act, AllocError>
 }
 
 impl Reader {
-    /// Nothing was read yet but the header.
+    /// A reader after the header.
     pub(crate) fn new(alloc: Global, version: Version) -> Reader
         ensures { reading_of result ≡ reading_first version }
     {
@@ -91,7 +92,7 @@ impl Reader {
         });
     }
 
-    // Adds what is done at a time.
+    // Adds an event with an act, if there is one, and sets the time.
     fn add(&mut self, alloc: Global, time: u64, act: Option<LineAct<'_>>) -> Result<(), AllocError>
         ensures { OnOk result
             (reading_of self.new ≡ with_act time (option_map line_act_of act.entry) (reading_of self.old)) }
@@ -104,7 +105,7 @@ impl Reader {
         Ok(())
     }
 
-    // Takes what an event says.
+    // Takes the time and the act of an event.
     fn take_entry(
         &mut self,
         alloc: Global,

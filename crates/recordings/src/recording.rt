@@ -11,12 +11,12 @@ use crate::reader::Reader;
 use crate::size::Size;
 use std::alloc::{AllocError, Global};
 
-/// What happens to a terminal.
+/// A recording: the size and the events of a terminal.
 #[derive(Debug, Drop)]
 pub struct Recording {
     /// The size of the terminal at first.
     pub size: Size,
-    /// What happens, one after another, none at a time before that of the one before it.
+    /// The events in the order of their times.
     pub events: Vec<Event>,
     /// The line that is wrong, if one is; nothing was read of it and after it.
     pub fault: Option<BadLine>,
@@ -29,7 +29,7 @@ fn lines_of(alloc: Global, input: &[u8]) -> Result<Vec<&[u8]>, AllocError>
     input.split(|byte| *byte == b'\n').collect(alloc)
 }
 
-// What the lines after a header lead to.
+// A reader after the lines that follow a header.
 fn read_lines(alloc: Global, version: Version, lines: &[&[u8]]) -> Result<Reader, AllocError>
     ensures { IfOk result (λ reading.
         reading_of reading ≡ lines_read 2 (reading_first version) (map (λ line. line.now) lines.now)) }
@@ -41,7 +41,7 @@ fn read_lines(alloc: Global, version: Version, lines: &[&[u8]]) -> Result<Reader
     Ok(reading)
 }
 
-// The bytes of an application.
+// The recording of the bytes of an application.
 fn bytes_recording(alloc: Global, size: Size, input: &[u8]) -> Result<Recording, AllocError>
     ensures { IfOk result (λ recording. recording_value recording ≡ bytes_recording size.width size.height input.now) }
 {
@@ -95,9 +95,9 @@ fn lines_recording(
 /// size.
 ///
 /// Of a recording its size, its outputs (`o`) and its resizes (`r`) are read; events of other codes and empty lines are
-/// passed over, and in version 3 lines that begin with `#`. Times are decimals, of which the digits after the
-/// microseconds are cut; those of version 3 are from one event, of any code, to the next, and their sums exact. It
-/// takes memory in proportion to the input.
+/// skipped, and in version 3 lines that begin with `#`. Times are decimal numbers of seconds; fractions of a
+/// microsecond are cut off. Those of version 3 are from one event, of any code, to the next, and their sums are exact.
+/// Takes memory in proportion to the input.
 #[tactic(auto, unfolding(crate::specs::Recordings::recording_of))]
 pub fn read_recording(alloc: Global, size: Size, input: &[u8]) -> Result<Recording, AllocError>
     ensures { IfOk result (λ recording. recording_value recording ≡ recording_of size.width size.height input.now) }

@@ -94,7 +94,7 @@ fn read_links(alloc: Global) -> Outcome {
     Ok(Hyperlink::parse(alloc, &none)?.is_none() && is_written(alloc, &link, "8;a=1:id=x;u;v")?)
 }
 
-// Parts that are no link, whatever the memory.
+// Parts that are no link, also where memory is refused.
 fn no_links(alloc: Global) -> Outcome {
     let few: [&[u8]; 2] = [b"8", b"a=1"];
     let bad: [&[u8]; 3] = [b"8", b"a=1", b"\xff"];
@@ -130,7 +130,7 @@ fn copies(alloc: Global) -> Outcome {
     Ok(change.try_clone()? == change && zone.try_clone()? == zone && range.try_clone()? == range)
 }
 
-// Calls of attributes and of blank cells, which are refused nothing.
+// Calls of attributes and of blank cells, which take no memory.
 fn plain_values(_alloc: Global) -> Outcome {
     let mut attrs = CellAttributes::blank();
     attrs.set_intensity(Intensity::Bold);

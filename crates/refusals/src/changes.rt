@@ -86,14 +86,14 @@ fn copies(alloc: Global) -> Outcome {
     Ok(true)
 }
 
-// A sequence after a text and a position.
+// A sequence after the text `abcde`.
 fn sequence_of(alloc: Global) -> Result<Plain, Stop> {
     let mut sequence = ChangeSequence::new(alloc, 3, 4, ProgramWidth);
     sequence.add(text_of(alloc, "abcde")?)?;
     Ok(sequence)
 }
 
-// Whether a sequence is the one of a text alone.
+// Whether a sequence is that of the text alone.
 fn is_unchanged(sequence: &Plain) -> Outcome {
     let position = sequence.current_cursor_position();
     let copy = sequence.try_clone()?;
@@ -154,7 +154,7 @@ fn lists(alloc: Global) -> Outcome {
     Ok(copy.current_cursor_position() == position && copy.consume().len() == 1 + CHANGES)
 }
 
-// A change that begins as another value.
+// A change that is converted from another value.
 fn converted(alloc: Global) -> Outcome {
     let mut sequence = ChangeSequence::new(alloc, 3, 4, ProgramWidth);
     sequence.add(AttributeChange::Italic(true))?;

@@ -5,7 +5,7 @@ use escape_osc::OperatingSystemCommand;
 use std::alloc::Global;
 use std::io::Write;
 
-// Bodies of commands of each kind, which are written as they are.
+// Bodies of commands of each kind, each of which is also the body of the written command.
 const BODIES: [&str; 12] = [
     "0;t",
     "1;t",

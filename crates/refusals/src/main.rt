@@ -1,10 +1,10 @@
-//! Makes calls that take memory, and prints `ok` where each did what it must: either it answered rightly, or it was
-//! refused memory, said so under its own name, and left what follows a refusal. To be run with each request for
-//! memory refused in turn.
+//! Makes calls that take memory, and prints `ok` where each did what it must: either it returned the right result, or
+//! it was refused memory, returned the error of its own type, and left the state that must follow a refusal. To be run
+//! with each request for memory refused in turn.
 //!
-//! With the word `calls` it makes only values and then those calls that need no memory, and with `values` these values
-//! alone. The first run should make no request more than the second: it is to be run with every request refused after
-//! those.
+//! With the argument `calls` it makes only values and then those calls that need no memory, and with `values` only
+//! these values. The first run should make no more requests than the second: it is to be run with every request refused
+//! after those of the second.
 //!
 //! - `cells`: cells, attributes, links and colours.
 //! - `changes`: changes, and sequences of them that know where they leave the cursor.
@@ -13,7 +13,7 @@
 //!   was.
 //! - `edits`: edits of lines: a refused one leaves a lawful line with its number.
 //! - `lines`: makers and queries of lines.
-//! - `outcome`: what a check comes to.
+//! - `outcome`: the outcome of a check.
 //! - `runs`: `run` and `show`: where the terminal is refused memory, what was written is a prefix of the whole.
 //! - `script`: whole scripts: each answer before a refusal is that of the run without one.
 //! - `sequences`: control sequences: after a refusal the actions of a list end.

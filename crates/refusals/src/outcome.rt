@@ -1,4 +1,4 @@
-//! What a check comes to.
+//! The outcome of a check.
 use cell_base::LinkError;
 use cell_surface::SurfaceError;
 use csi_codec::CrackError;
@@ -10,9 +10,9 @@ use terminal::{RenderError, RunError, TerminalError};
 /// Why a check ended early.
 #[derive(Clone, Copy)]
 pub enum Stop {
-    /// A call was refused memory, and said so under its own name.
+    /// A call was refused memory, and returned the error of its own type.
     Memory,
-    /// A call was refused something else.
+    /// A call failed for another reason.
     Other,
 }
 
@@ -24,7 +24,8 @@ pub fn refused(stop: Stop, stands: bool) -> Outcome {
     if stands { Err(stop) } else { Ok(false) }
 }
 
-/// Whether all are right; of those that are not, the first decides. Each is made, whatever those before it are.
+/// Whether all outcomes are right; the first that is not decides. Every check has been made, whatever the outcomes
+/// before it are.
 pub fn all(outcomes: &[Outcome]) -> Outcome {
     for outcome in outcomes {
         if !(*outcome)? {
@@ -51,7 +52,7 @@ impl<T: Drop> From<AllocFailed<T>> for Stop {
     }
 }
 
-// A text that is written to grows, and is refused nothing else.
+// Formatting into a `String` fails only where memory is refused.
 impl From<fmt::Error> for Stop {
     fn from(_error: fmt::Error) -> Stop {
         Stop::Memory

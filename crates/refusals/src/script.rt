@@ -7,7 +7,7 @@ use std::alloc::Global;
 use std::io::Write;
 use terminal::{ProgramWidth, SequenceNo, Terminal, TerminalError};
 
-// What the terminal of the short script is sent: its screen, and the patch from a blank one.
+// The answers of the short script's terminal: the update of its whole screen, and the patch from a new terminal.
 const UPDATE: &[u8] =
     b"\x1b[?25l\x1b[0m\x1b]8;;\x1b\\\x1b[2J\x1b[1;1H\x1b]2;\x1b\\a\0\x1b[0m\x1b]8;id=1;u\x1b\\b \0\x1b[1;3H\x1b[?25h";
 
@@ -29,8 +29,8 @@ struct Wanted {
     replies: &'static [u8],
 }
 
-// What follows an answer of which the bytes were refused: the terminal is as it is after a look, and gives the
-// answer to a second request.
+// What follows an answer whose bytes were refused memory: the terminal is as it is after a look, and a second request
+// returns the answer.
 fn again(terminal: &mut Plain, shown: &Plain, wanted: &Wanted) -> Outcome {
     let stands = shows(terminal, wanted.rows)? && terminal.current_number() == wanted.number;
     let (number, bytes) = ask(terminal, shown, wanted.since, wanted.is_patch)?;
@@ -127,7 +127,7 @@ fn chunk(index: usize) -> &'static [u8] {
     }
 }
 
-// What it asks for.
+// The replies that a chunk of the long script requests.
 fn replies_to(index: usize) -> &'static [u8] {
     match index {
         3 => b"\x1b[0n",
@@ -163,7 +163,7 @@ fn shows_same(terminal: &Plain, viewer: &Plain) -> Outcome {
     ])
 }
 
-// What a refused answer leaves: a terminal that has failed and says so, or one that answers a second request.
+// What a refused answer leaves: a terminal whose calls return `Failed`, or one that answers a second request.
 fn asked_again(
     alloc: Global,
     error: TerminalError,
@@ -201,12 +201,12 @@ fn answer(
     }
 }
 
-// What is not right ends a script.
+// Ends a script where an outcome is not right.
 fn go_on_if_right(outcome: Outcome) -> Result<(), Stop> {
     if outcome? { Ok(()) } else { Err(Stop::Other) }
 }
 
-// A terminal reads bytes; one that is refused has failed and says so.
+// A terminal reads bytes; where it is refused memory, its calls then return `Failed`.
 fn read(alloc: Global, terminal: &mut Plain, bytes: &[u8]) -> Result<(), Stop> {
     match terminal.feed(bytes) {
         Ok(()) => Ok(()),

@@ -33,7 +33,7 @@ fn is_list(alloc: Global, params: &[CsiParam], control: char, text: &str) -> Out
     Ok(written.as_str() == text && bytes.as_slice() == text.as_bytes() && actions.next().is_none())
 }
 
-// A list of which the end has no reading.
+// A list whose end encodes no known action.
 fn lists_with_a_rest(alloc: Global) -> Outcome {
     let params = [
         CsiParam::Integer(38),
@@ -49,7 +49,7 @@ fn lists_with_a_rest(alloc: Global) -> Outcome {
     is_list(alloc, &params, 'm', "\x1b[38:5:220m\x1b[255;255m")
 }
 
-// A list without a reading.
+// A list that encodes no known action.
 fn lists_left_whole(alloc: Global) -> Outcome {
     let params = [CsiParam::Integer(4_294_967_296)];
     is_list(alloc, &params, 'C', "\x1b[4294967296C")
@@ -107,7 +107,7 @@ fn cracked(alloc: Global) -> Outcome {
     Ok(copy == list && list.len() == 3 && none && matches!(list.int(2), Ok(3)))
 }
 
-// Lists that can't be cracked, whatever the memory, and calls that take none.
+// Lists that can't be cracked, also where memory is refused, and calls that take no memory.
 fn without_memory(alloc: Global) -> Outcome {
     let params = [CsiParam::P(b'?')];
     let esc = Esc::parse(None, b'c');

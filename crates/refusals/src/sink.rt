@@ -2,7 +2,7 @@
 use std::io;
 use std::io::{ErrorKind, Write};
 
-/// Takes up to 256 bytes.
+/// A writer that takes up to 256 bytes.
 #[derive(Drop)]
 pub struct Sink {
     bytes: [u8; 256],
@@ -10,7 +10,7 @@ pub struct Sink {
 }
 
 impl Sink {
-    /// One that holds nothing.
+    /// A sink without bytes.
     pub fn new() -> Sink {
         Sink {
             bytes: [0u8; 256],

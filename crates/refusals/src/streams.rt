@@ -16,7 +16,7 @@ const ACTIONS: usize = 17;
 // How many it has, each print by itself.
 const CALLS: usize = 19;
 
-// A parser that has failed answers so, of pieces as the one item.
+// Whether each call of a parser returns `Failed`; its pieces are this one item.
 fn has_failed(parser: &mut Parser) -> bool {
     hold(&[
         parser.is_failed(),
@@ -28,7 +28,7 @@ fn has_failed(parser: &mut Parser) -> bool {
     ])
 }
 
-// The only piece of a parser that has failed is `Failed`.
+// Whether `Failed` is the only item of a parser's pieces.
 fn pieces_have_failed(parser: &mut Parser) -> bool {
     let mut pieces = parser.pieces(b"x");
     let is_first = matches!(pieces.next(), Some(Err(ParseError::Failed)));
@@ -69,7 +69,7 @@ fn bytes(alloc: Global) -> Outcome {
     Ok(actions.len() == ACTIONS)
 }
 
-// Actions are appended to others.
+// Appends actions to others.
 fn append(actions: &mut Vec<Action>, more: Vec<Action>) -> Result<(), Stop> {
     for action in more {
         action.append_to(actions)?;
@@ -160,7 +160,7 @@ fn joined(alloc: Global) -> Outcome {
     ])
 }
 
-// A framer says where it is refused memory.
+// A framer, which returns an error where it is refused memory.
 fn framers(alloc: Global) -> Outcome {
     let mut framer = Framer::new(alloc);
     for byte in b"\x1b]2;hellotherehellothere\x1b\\" {

@@ -34,13 +34,12 @@ fn is_unchanged(surface: &Plain) -> Outcome {
     ])
 }
 
-// Whether an answer is that the surface has failed.
+// Whether a result is `Failed`.
 fn is_failed<T: Drop>(answer: Result<T, SurfaceError>) -> bool {
     matches!(answer, Err(SurfaceError::Failed))
 }
 
-// Whether each changing call of a surface, and `get_changes`, answers that it has failed, and dropping changes does
-// nothing.
+// Whether each changing call of a surface, and `get_changes`, returns `Failed`, and dropping changes does nothing.
 fn has_failed(alloc: Global, surface: &mut Plain, other: &Plain) -> bool {
     let title = Change::Title(String::new(alloc));
     let changed = hold(&[
@@ -129,7 +128,7 @@ fn resized(alloc: Global) -> Outcome {
     }
 }
 
-// What another surface shows, and a region, that are drawn.
+// A surface on which another one is drawn.
 fn drawn(alloc: Global) -> Outcome {
     let other = surface_of(alloc, "\u{304b}x")?;
     let mut surface = surface_of(alloc, "abcdef")?;
@@ -148,7 +147,7 @@ fn copied(alloc: Global) -> Outcome {
     }
 }
 
-// Changes from a number on, and those that paint the screen anew.
+// The changes from a number on, or the changes of a repaint.
 fn due(surface: &Plain, number: SequenceNo, count: usize) -> Outcome {
     match surface.get_changes(number) {
         Ok((now, changes)) => Ok(now == 1 && changes.len() == count),

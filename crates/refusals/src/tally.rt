@@ -20,7 +20,7 @@ impl<W: Write> Tally<W> {
         }
     }
 
-    // Writes a line; that it can't be written makes the run wrong.
+    // Writes a line; the run is wrong where the line can't be written.
     fn write_line(&mut self, line: &str) {
         let is_written = self.out.write_all(line.as_bytes()).is_ok()
             && self.out.write_all(b"\n").is_ok();
@@ -29,7 +29,7 @@ impl<W: Write> Tally<W> {
         }
     }
 
-    /// Takes a check.
+    /// Counts a check.
     pub fn take(&mut self, name: &str, outcome: Outcome) {
         match outcome {
             Ok(true) => {}
@@ -41,8 +41,8 @@ impl<W: Write> Tally<W> {
         }
     }
 
-    /// Writes `ok` where no check was wrong, and answers the status. One request is refused in a run, so no more than
-    /// one check may be refused memory.
+    /// Writes `ok` where no check was wrong, and returns the exit status. One request is refused in a run, so no more
+    /// than one check may be refused memory.
     pub fn end(&mut self) -> u8 {
         if self.refused > 1 {
             self.is_wrong = true;

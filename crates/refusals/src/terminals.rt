@@ -23,10 +23,10 @@ const REPLIES: &[u8] = b"\x1b[1;4R";
 /// A number, and the bytes of an update or a patch.
 pub type Encoded = (SequenceNo, Vec<u8>);
 
-/// What `update` and `patch` answer.
+/// What `update` and `patch` return.
 pub type Answer = Result<Encoded, TerminalError>;
 
-/// A patch from another terminal, of the same size; of another size it answers `Number`.
+/// A patch from another terminal of the same size; `Number` where the sizes differ.
 pub fn patched(terminal: &mut Plain, shown: &Plain) -> Answer {
     let (width, height) = terminal.surface().dimensions();
     let (other_width, other_height) = shown.surface().dimensions();
@@ -43,12 +43,12 @@ pub fn shows(terminal: &Plain, rows: &str) -> Outcome {
     Ok(terminal.surface().screen_chars_to_string()?.as_str() == rows)
 }
 
-// Whether an answer is that the terminal has failed.
+// Whether a result is `Failed`.
 fn is_failed<T: Drop>(answer: Result<T, TerminalError>) -> bool {
     matches!(answer, Err(TerminalError::Failed))
 }
 
-/// Whether each call of a terminal that can be refused answers that it has failed, also one that is fed nothing.
+/// Whether each call of a terminal that can be refused returns `Failed`, also a feed of no bytes.
 pub fn has_failed(terminal: &mut Plain) -> bool {
     hold(&[
         terminal.is_failed(),
@@ -61,7 +61,7 @@ pub fn has_failed(terminal: &mut Plain) -> bool {
     ])
 }
 
-// Whether a patch of a terminal that has failed answers so.
+// Whether a patch of a terminal returns `Failed`.
 fn patch_has_failed(alloc: Global, terminal: &mut Plain) -> Outcome {
     let (width, height) = terminal.surface().dimensions();
     if width < 1 || 10 < width || height < 1 || 10 < height {
@@ -163,7 +163,7 @@ pub fn ask(terminal: &mut Plain, shown: &Plain, number: SequenceNo, is_patch: bo
     }
 }
 
-// What is answered on the stream.
+// The answer of a terminal that was fed the stream.
 fn whole(
     alloc: Global,
     shown: &Plain,
@@ -174,7 +174,7 @@ fn whole(
     Ok(ask(&mut terminal, shown, number, is_patch)?)
 }
 
-// What follows an answer that was refused: where its bytes were, a second call gives them.
+// What follows an answer that was refused: where its bytes were refused memory, a second call returns them.
 fn again(error: TerminalError, terminal: &mut Plain, answer: Answer, whole: &Encoded) -> Outcome {
     let is_whole = is_same(&answer?, whole);
     refused(Stop::from(error), is_whole && is_settled(terminal)?)
@@ -216,8 +216,8 @@ fn plays(alloc: Global) -> Outcome {
     all(&[Ok(is_moved), shows(&terminal, "ab \n   \n")])
 }
 
-// The bytes of each change: of the size of a row, of the cursor's colour and of its shape there are none, whatever the
-// memory.
+// The bytes of each change. The changes of a row's size, of the cursor's colour and of its shape have none, also where
+// memory is refused.
 fn renderings(alloc: Global) -> Outcome {
     for kind in 0..CHANGES {
         let is_spelled = !matches!(kind, 4 | 9 | 10);
@@ -231,7 +231,7 @@ fn renderings(alloc: Global) -> Outcome {
     Ok(true)
 }
 
-// Whether calls that take no memory are refused nothing.
+// Whether calls that take no memory succeed.
 fn is_refused_nothing(terminal: &mut Plain) -> bool {
     let is_done = terminal.feed(b"").is_ok() && terminal.settle().is_ok();
     terminal.forget_before(terminal.current_number());

@@ -32,7 +32,7 @@ pub fn are_texts_measured() -> bool {
         && !is_white_space_grapheme("\u{2068}")
 }
 
-// Sets what is neither a colour nor the link.
+// Sets all attributes except the colours and the link.
 fn set_rendition(attrs: &mut CellAttributes) {
     attrs.set_intensity(Intensity::Bold).set_italic(true);
     attrs.set_underline(Underline::Curly).set_blink(Blink::Slow);
@@ -44,7 +44,7 @@ fn set_rendition(attrs: &mut CellAttributes) {
     attrs.set_vertical_align(VerticalAlign::SuperScript);
 }
 
-// Whether that is set.
+// Whether all attributes except the colours and the link are set.
 fn has_rendition(attrs: &CellAttributes) -> bool {
     let is_text = attrs.intensity() == Intensity::Bold
         && attrs.underline() == Underline::Curly
@@ -63,7 +63,7 @@ fn set_colors(attrs: &mut CellAttributes, link: Option<Rc<Hyperlink>>) {
     attrs.set_hyperlink(link);
 }
 
-// Whether these are set, and the link is that of `v`.
+// Whether the colours are set, and the link is that of `v`.
 fn has_colors(attrs: &CellAttributes) -> bool {
     attrs.foreground() == ColorAttribute::PaletteIndex(9)
         && attrs.background()

@@ -1,4 +1,4 @@
--- The texts of faults, and what it is to report one.
+-- The texts of faults, and the condition that one is reported.
 use Rattle.std.specs.Prelude.{◌≡◌, ℕ, List, [], ◌∷◌, ◌++◌, Option, false, IsTrue, codes}
 use Rattle.std.specs.Io.KnownBytes.{Appends}
 use Rattle.terminal.specs.Watched.{Watched}
@@ -6,7 +6,7 @@ use Rattle.terminal.specs.declared.error.RunError.{RunError}
 use Rattle.terminal.specs.declared.error.RunError.TheVariants as run
 use Rattle.terminal_steps.specs.declared.error.TerminalError.TheVariants as terminal
 
--- why a run ended early
+-- the text for a run that ended early
 abbrev pub fault_text : RunError → List ℕ
 fault_text run.Read = codes "cannot read"
 fault_text run.Write = codes "cannot write"
@@ -15,11 +15,11 @@ fault_text (run.Terminal terminal.Number) = codes "numbers used up"
 fault_text (run.Terminal terminal.Memory) = codes "out of memory"
 fault_text (run.Terminal terminal.Failed) = codes "out of memory"
 
--- the line on a fault
+-- the line that reports a fault
 abbrev pub fault_line : List ℕ → List ℕ
 fault_line fault = codes "relay: " ++ fault ++ 10 ∷ []
 
--- a text was written and flushed, or the writer has failed
+-- a text was written and flushed, unless the writer has failed
 abbrev pub IsReported : {T : Type 0} → (T → Option (List ℕ)) → Watched T → Watched T → List ℕ → Type 0
 IsReported contents old new text =
     new.has_failed ≡ false → Appends (contents old.inner) (contents new.inner) text × IsTrue new.is_flushed

@@ -1,4 +1,4 @@
--- Which words are a command line that can be run, and what they give.
+-- Which words are a command line that can be run, and the values that they give the options.
 use Rattle.std.specs.Prelude.{◌≡◌, ◌<◌, ◌≤◌, ◌⊎◌, ⊤, ℕ, Bool, true, false, List, [], ◌∷◌, ◌++◌, codes, map}
 use Rattle.std.specs.List.{AllByRecursion, IsDistinct}
 use Rattle.std.specs.Str.{bytes_eq}
@@ -36,11 +36,11 @@ GiveAll [] words = (words ≡ []) ⊎ (words ≡ codes "--" ∷ [])
 GiveAll (setting ∷ remaining) words =
     (first : List Text) × (rest : List Text) × (words ≡ first ++ rest) × Give setting first × GiveAll remaining rest
 
--- the number that a text writes in decimal digits, which may follow a plus sign
+-- the number of a text of decimal digits, with or without a plus sign before them
 abbrev pub number_of : Text → ℕ
 number_of text = digits_value 10 (without_leading_plus text)
 
--- the text writes a number from 1 to the most
+-- the text is a number from 1 to `most`
 abbrev pub IsNumberTo : ℕ → Text → Type 0
 IsNumberTo most text = IsNumeral 10 (without_leading_plus text) × (0 < number_of text) × (number_of text ≤ most)
 
@@ -58,19 +58,19 @@ pub record IsCommandLine (words : List Text) : Type 0 where
   -- no option is given twice
   pub once : IsDistinct bytes_eq (map name_of settings)
 
--- the columns of the screen that are given, or the default
+-- the columns of the screen, or the default of 80
 abbrev pub width_given : List Setting → ℕ
 width_given [] = 80
 width_given (Width text ∷ remaining) = number_of text
 width_given (_ ∷ remaining) = width_given remaining
 
--- its rows
+-- the rows of the screen, or the default of 24
 abbrev pub height_given : List Setting → ℕ
 height_given [] = 24
 height_given (Height text ∷ remaining) = number_of text
 height_given (_ ∷ remaining) = height_given remaining
 
--- after how many bytes an update is written
+-- after how many bytes an update is written, or the default of 4096
 abbrev pub every_given : List Setting → ℕ
 every_given [] = 4096
 every_given (Every text ∷ remaining) = number_of text

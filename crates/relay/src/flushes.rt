@@ -1,4 +1,4 @@
-//! The program on writers of which a flush fails, and on words that are not UTF-8.
+//! The program on writers whose flush fails, and on words that are not UTF-8.
 use crate::service::{refuse_ill_formed, serve};
 use std::alloc::Global;
 use std::io;
@@ -85,7 +85,7 @@ fn texts_on_demand_are_flushed_once(rt: HostRuntime) {
     assert_run(&rt, &["relay", "--version"], b"", 1, (0, version));
 }
 
-// What `--help` writes where the first flush fails, and where it doesn't.
+// `--help` on a writer whose first flush fails, and on one whose first flush doesn't.
 #[test]
 fn help_is_flushed_once(rt: HostRuntime) {
     for (flushes, expected) in [(0, 1), (1, 0)] {
@@ -100,7 +100,7 @@ fn help_is_flushed_once(rt: HostRuntime) {
     }
 }
 
-// The words have that status where the message can't be flushed.
+// The words have the `expected` status where the message can't be flushed.
 fn assert_unreported<R: Abort + AllocGlobal>(rt: &R, words: &[&str], flushes: usize, expected: u8) {
     let mut output = writer_of(rt.alloc(), flushes);
     let mut faults = writer_of(rt.alloc(), 0);

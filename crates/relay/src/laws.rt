@@ -1,4 +1,4 @@
-//! Laws of the definitions: what some command lines give.
+//! Laws of the definitions: the options of command lines.
 ghost use Rattle.std.specs.Prelude.{◌≡◌, ◌↔◌, [], ◌∷◌, codes, drop, List, true, false};
 ghost use Rattle.clap.specs.Words.{Text};
 ghost use Rattle.clap.specs.declared.error.kind.ErrorKind.TheVariants.{DisplayHelp, ValueValidation, UnknownArgument};
@@ -6,8 +6,8 @@ ghost use Rattle.relay.specs.CommandLine.{faults_in, width_in, height_in, every_
 ghost use Rattle.relay.specs.Settings.{IsCommandLine, width_given, height_given, every_given, show_given};
 
 /// A law, which needs no call: the words that can be run are those that give options, in any order,
-/// each at most once and each number in its range, and these numbers are what they give; an option
-/// that they don't give has its default. The first word is the program's name, whatever it is.
+/// each at most once and each number in its range; an option has the number that they give it, or else
+/// its default. The first word is the program's name, whatever it is.
 pub fn settings()
     ensures taken { (words : List Text) → (faults_in words ≡ []) ↔ IsCommandLine (drop 1 words) }
     ensures width { (words : List Text) (line : IsCommandLine (drop 1 words))

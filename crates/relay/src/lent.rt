@@ -1,11 +1,11 @@
-//! A writer that is lent, and of which contracts can say that it is still the one that was lent.
+//! A writer that is lent, about which contracts can state that it is still the same writer.
 ghost use Rattle.relay.specs.Lent.{named};
 
 use std::io;
 use std::io::Write;
 
-/// A lent writer. What it holds is known by the name of the reference and the writer's bytes, so that what appends to
-/// these bytes has not put another reference in its place.
+/// A lent writer. Its contents, for contracts, are the name of the reference and then the writer's bytes. So a call
+/// whose contract says that it only appends to the contents hasn't replaced the reference by another one.
 pub struct Lent<'a, T> {
     pub inner: &'a mut T,
 }

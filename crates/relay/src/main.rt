@@ -1,9 +1,9 @@
 //! A filter that keeps the screen of an application from the bytes on its standard input.
 //!
-//! - `flushes`: the program on writers of which a flush fails, and on words that are not UTF-8.
-//! - `laws`: laws of the definitions: what some command lines give.
-//! - `lent`: a writer that is lent, and of which contracts can say that it is still the one that was lent.
-//! - `options`: what the words of a command line give.
+//! - `flushes`: the program on writers whose flush fails, and on words that are not UTF-8.
+//! - `laws`: laws of the definitions: the options of command lines.
+//! - `lent`: a writer that is lent, about which contracts can state that it is still the same writer.
+//! - `options`: the options of a command line.
 //! - `service`: the program on its words and streams.
 //! - `tests`: the program on readers and writers that give and take a few bytes at a time, and fail.
 #![tactic(auto)]

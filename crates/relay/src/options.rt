@@ -1,4 +1,4 @@
-//! What the words of a command line give.
+//! The options of a command line.
 ghost use Rattle.std.specs.Prelude.{◌≡◌, ◌<◌, ◌≤◌, false, Some, IfOk, map};
 ghost use Rattle.clap.specs.Words.{FailsBy, app_of, found_of, one_text, rule_of};
 ghost use Rattle.relay.specs.CommandLine.{chosen, command_line, named, number_rule, flag_rule, faults_in, number_or};
@@ -8,7 +8,7 @@ use clap::{Arg, ArgAction, ArgMatches, Command, Error, value_parser};
 use std::alloc::{AllocError, Global};
 use std::convert::AsStr;
 
-/// What a command line asks for.
+/// The options that a command line asks for.
 #[derive(Clone, Copy, Debug, PartialEq, Eq)]
 pub struct Options {
     /// Columns of the screen, 1 to 4096.
@@ -26,7 +26,7 @@ pub struct Options {
 
 const MOST: u32 = 4096;
 
-// An option whose value is a number from 1 to the most.
+// An option whose value is a number from 1 to `most`.
 fn number_option<'a>(
     alloc: Global,
     name: &'a str,
@@ -58,7 +58,7 @@ fn flag_option<'a>(alloc: Global, name: &'a str, help: &'a str) -> Arg<'a>
         .help(help)
 }
 
-// What standard input and output are, and a command line that one can run.
+// The help text on standard input and output, with an example.
 const STREAMS: &str = "\
 Standard input: the bytes that an application writes to its terminal.
 Standard output: updates, each the bytes that bring a viewer's terminal of the
@@ -108,7 +108,7 @@ fn command<'a>(alloc: Global) -> Result<Command<'a>, AllocError>
         .arg(show)
 }
 
-// The number that was read, where it is from 1 to the most.
+// The number that was read, if it is from 1 to `most`, or else the default.
 fn chosen(number: Option<u32>, default: u32, most: u32) -> u32
     requires { (0 < default) × (default ≤ most) }
     ensures range { (0 < result) × (result ≤ most) }
@@ -120,7 +120,7 @@ fn chosen(number: Option<u32>, default: u32, most: u32) -> u32
     }
 }
 
-// A number that the command line's parser has found in its range.
+// The number of an option, or its default; the command line's parser has checked its range.
 fn number(matches: &ArgMatches<'_>, name: &str, default: u32, most: u32) -> usize
     requires { (0 < default) × (default ≤ most) }
     ensures range { (0 < result) × (result ≤ most) }

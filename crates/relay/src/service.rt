@@ -24,7 +24,7 @@ const FAULT: u8 = 1;
 
 const BAD_WORDS: u8 = 2;
 
-// Writes the line on a fault.
+// Writes the line that reports a fault.
 #[tactic(auto, using(crate::proofs::FaultLemmas::line_parts))]
 fn write_line<F: Write>(faults: &mut Watched<F>, fault: &str) -> Result<(), RunError>
     ensures ok { OnOk result
@@ -39,7 +39,7 @@ fn write_line<F: Write>(faults: &mut Watched<F>, fault: &str) -> Result<(), RunE
     faults.write_all(b"\n")
 }
 
-/// Writes a line on what went wrong. That it can't be written is dropped.
+/// Writes a line with a fault, and returns the status 1. If the line can't be written, that is ignored.
 pub fn report<F: Write>(faults: &mut Watched<F>, fault: &str) -> u8
     ensures status { result ≡ FAULT }
     ensures reported { IsReported (λ f. F.contents f) faults.old faults.new (fault_line fault.now) }
@@ -59,7 +59,8 @@ Usage: relay [OPTIONS]
 For more information, try '--help'.
 ";
 
-/// Says that a word of the command line is not UTF-8. That it can't be written is dropped.
+/// Reports that a word of the command line is not UTF-8, and returns the status 2. If this can't be written, that is
+/// ignored.
 pub fn refuse_ill_formed<F: Write>(faults: &mut Watched<F>) -> u8
     ensures status { result ≡ BAD_WORDS }
     ensures reported { IsReported (λ f. F.contents f) faults.old faults.new ILL_FORMED.now }
@@ -67,7 +68,7 @@ pub fn refuse_ill_formed<F: Write>(faults: &mut Watched<F>) -> u8
     refuse(faults, ILL_FORMED)
 }
 
-// Writes why the words are no command line. That it can't be written is dropped.
+// Writes why the words are refused, and returns the status 2. If this can't be written, that is ignored.
 fn refuse<F: Write>(faults: &mut Watched<F>, text: &str) -> u8
     ensures status { result ≡ BAD_WORDS }
     ensures reported { IsReported (λ f. F.contents f) faults.old faults.new text.now }
@@ -90,7 +91,7 @@ fn fault_of(error: RunError) -> &'static str
     }
 }
 
-// Help and the version go to the writer, and what is wrong with the words to faults.
+// Writes help or the version to `writer`, and a mistake in the words to `faults`.
 fn explain<T: Write, F: Write>(
     alloc: Global,
     error: &Error,
@@ -131,7 +132,7 @@ fn explain<T: Write, F: Write>(
     0
 }
 
-// Writes what the options ask for of what the reader gives.
+// Writes the output that the options ask for of the reader's input: the rows, or the updates.
 fn answer<R: Read, T: Write>(
     alloc: Global,
     options: Options,
@@ -156,7 +157,7 @@ fn answer<R: Read, T: Write>(
         (NumbersRunOut options.is_show options.width options.height options.every) }
     ensures memory { IsErrOf result (RunError.Terminal TerminalError.Memory) → IfSome (R.remaining reader.old.inner)
         (MemoryRunsOut options.is_show options.width options.height options.every (R.remaining reader.new.inner)) }
-    // After a fault of the reader or the writer it is not called again.
+    // After a fault of the reader or the writer the one that failed isn't called again.
     ensures ends_reads { reader.new.has_gone_on ≡ reader.old.has_gone_on }
     ensures ends_writes { writer.new.has_gone_on ≡ writer.old.has_gone_on }
 {
@@ -173,7 +174,7 @@ fn answer<R: Read, T: Write>(
     }
 }
 
-// Does what the words ask for, and reports a fault.
+// Runs the command line, and reports a fault.
 fn relay<S: AsStr, R: Read, T: Write, F: Write>(
     alloc: Global,
     words: &[S],
@@ -215,13 +216,13 @@ fn relay<S: AsStr, R: Read, T: Write, F: Write>(
     }
 }
 
-/// The program on its words, of which the first is its name, and on its streams. What the words ask
-/// for is written to `writer`: the updates of what the reader gives, one after each `--every` bytes and
+/// The program on its words, of which the first is its name, and on its streams. The output that the words
+/// ask for is written to `writer`: the updates of the reader's input, one after each `--every` bytes and
 /// one at the end, or with `--show` the rows of the screen at the end; or help, or the version.
 ///
-/// It answers the status: 0; or 1 with one line on `faults`, where reading, writing, memory or numbers
-/// failed or the input was too long, and then the first bytes may have been written; or 2 with a text on
-/// `faults` for a bad command line, and then none were.
+/// It returns the status: 0; or 1 with one line on `faults`, where reading, writing, memory or numbers
+/// failed or the input was too long, and then a prefix of the output may have been written; or 2 with a
+/// text on `faults` for a bad command line, and then no output was written.
 #[tactic(auto, using(crate::proofs::OutputLemmas::lent_reports))]
 pub fn serve<S: AsStr, R: Read, T: Write, F: Write>(
     alloc: Global,
@@ -242,13 +243,13 @@ pub fn serve<S: AsStr, R: Read, T: Write, F: Write>(
     ensures mistaken { result ≡ BAD_WORDS → HasMistake (faults_in (map S.text words.now)) }
     // After a bad command line nothing was written.
     ensures refused { result ≡ BAD_WORDS → Keeps (T.contents writer.old) (T.contents writer.new) }
-    // A command line that can be run writes the updates of the input, or with `--show` its rows, of its size, where the
-    // status is 0, and else the first bytes of them.
+    // A command line that can be run writes the updates of the input, or with `--show` the rows, on a screen of its
+    // size, where the status is 0, and else a prefix of them.
     ensures shows { faults_in (map S.text words.now) ≡ [] → result ≡ 0 → IfSome (R.remaining reader.old) (λ input.
         Appends (T.contents writer.old) (T.contents writer.new) (written_in (map S.text words.now) input)) }
     ensures part { faults_in (map S.text words.now) ≡ [] → result ≢ 0 → IfSome (R.remaining reader.old) (λ input.
         AppendsPrefix (T.contents writer.old) (T.contents writer.new) (written_in (map S.text words.now) input)) }
-    // Then `faults` is given the line on a fault with which such a run may end, or the first bytes of it.
+    // With another status `faults` gets the line of a fault with which such a run may end, or a prefix of the line.
     ensures fault { faults_in (map S.text words.now) ≡ [] → result ≢ 0 → IfSome (R.remaining reader.old)
         (EndsWithFault (map S.text words.now) (F.contents faults.old) (F.contents faults.new)) }
 {

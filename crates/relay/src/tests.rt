@@ -78,7 +78,7 @@ const SEND: [&str; 7] = ["relay", "--width", "4", "--height", "1", "--every", "2
 const UPDATES: &[u8] =
     b"\x1b[?25l\x1b[0m\x1b]8;;\x1b\\\x1b[2J\x1b[1;1H\x1b]2;\x1b\\ab\0\x1b[1;3H\x1b[?25hc\0";
 
-// How many bytes the first of them has.
+// How many bytes the first update has.
 const FIRST: usize = UPDATES.len() - 2;
 
 // The update of a blank screen.
@@ -86,7 +86,7 @@ const BLANK: &[u8] = b"\x1b[?25l\x1b[0m\x1b]8;;\x1b\\\x1b[2J\x1b[1;1H\x1b]2;\x1b
 
 const NOTHING: &[u8] = b"";
 
-/// What a run answers and writes.
+/// The status of a run, its output and its message on `faults`.
 #[derive(Drop)]
 struct Run {
     status: u8,
@@ -109,7 +109,7 @@ fn run_of<R: AllocGlobal>(rt: &R, words: &[&str], mut input: Input, writes: (usi
     }
 }
 
-/// The run of the words has that status, and writes this and tells that.
+/// The run of the words has the `expected` status, output and message.
 fn assert_run<R: Abort + AllocGlobal>(
     rt: &R,
     words: &[&str],
@@ -131,7 +131,7 @@ fn shows_the_rows(rt: HostRuntime) {
     }
 }
 
-/// The words show the rows.
+/// The words write the rows.
 fn assert_shown<R: Abort + AllocGlobal>(rt: &R, words: &[&str]) {
     let run = run_of(rt, words, input_in(INPUT, 100, 100), (100, 100));
     assert_eq!(rt; run.status, 0);
@@ -243,7 +243,7 @@ fn drops_a_fault_while_faults_are_written(rt: HostRuntime) {
     assert!(rt; faults.text.is_empty());
 }
 
-/// The words are refused with that text, and nothing is shown.
+/// The words are refused with this text, and no output is written.
 fn assert_refused<R: Abort + AllocGlobal>(rt: &R, words: &[&str], text: &str) {
     let input = input_in(INPUT, 100, 100);
     assert_run(rt, words, input, (100, 100), (2, NOTHING, text.as_bytes()));

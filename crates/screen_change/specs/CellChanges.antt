@@ -13,7 +13,7 @@ use Rattle.screen_change.specs.Texts.{texts}
 abbrev pub attributes_due : Attributes → Attributes → List ChangeValue
 attributes_due pen attributes = if same_attributes attributes pen then [] else AllAttributes attributes ∷ []
 
--- with a pen: each run's attributes, unless the pen has them, and its texts
+-- the changes that write runs with a pen: each run's attributes, unless the pen has them, and its texts
 abbrev pub runs_written : Attributes → List CellRun → List ChangeValue
 runs_written pen [] = []
 runs_written pen (run ∷ runs) =
@@ -23,11 +23,11 @@ runs_written pen (run ∷ runs) =
 abbrev pub cells_written : Attributes → List CellContent → List ChangeValue
 cells_written pen cells = runs_written pen (cell_runs cells)
 
--- the pen after them: the last one's attributes
+-- the pen after the cells: the attributes of the last one
 abbrev pub last_pen : Attributes → List CellContent → Attributes
 last_pen pen cells = fold (λ _ cell. cell.attributes) pen cells
 
--- a clear to the end of the row, which a default background needs none of
+-- the clear to the end of the row that sets a background; the default background needs none
 abbrev pub clear_due : ColorAttribute → List ChangeValue
 clear_due Default = []
 clear_due color = ClearToEndOfLine color ∷ []

@@ -20,7 +20,7 @@ before_runs cell (run ∷ runs) =
     if same_attributes cell.attributes run.attributes then record run { cells = cell.text ∷ run.cells } ∷ runs
     else record { attributes = cell.attributes; cells = cell.text ∷ [] } ∷ run ∷ runs
 
--- the cells in runs of equal attributes, each as long as may be
+-- the cells in runs of equal attributes, each as long as possible
 abbrev pub cell_runs : List CellContent → List CellRun
 cell_runs [] = []
 cell_runs (cell ∷ cells) = before_runs cell (cell_runs cells)

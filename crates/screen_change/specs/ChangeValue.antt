@@ -1,4 +1,4 @@
--- Changes as values: texts as bytes, attributes and links by what they hold.
+-- Changes as values: texts as bytes, attributes and links as their values.
 use Rattle.std.specs.Prelude.{ℕ, Bool, true, false, List}
 use Rattle.cell_base.specs.declared.attributes.CursorShape.{CursorShape as Shape}
 use Rattle.cell_base.specs.declared.attributes.CursorVisibility.{CursorVisibility as Visibility}
@@ -8,8 +8,8 @@ use Rattle.cell_base.specs.declared.color.ColorAttribute.{ColorAttribute}
 use Rattle.cell_base.specs.AttributeValue.{AttributeValue}
 use Rattle.cell_base.specs.Attributes.{Attributes}
 
--- a change of a screen: what its variant of that name holds; of a scroll the first row of the region, how many rows it
--- has, and how far they move
+-- a change of a screen: each variant holds the argument of the variant of `Change` that has its name; a scroll holds
+-- the first row of the region, its number of rows, and by how many rows they move
 pub data ChangeValue : Type 0 where
   Attribute : AttributeValue → ChangeValue
   AllAttributes : Attributes → ChangeValue

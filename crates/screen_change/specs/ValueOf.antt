@@ -9,7 +9,7 @@ use Rattle.screen_change.specs.declared.change.Change.TheVariants.{CursorColor, 
 use Rattle.screen_change.specs.declared.change.Change.TheVariants.{LineAttribute, ScrollRegionUp, ScrollRegionDown}
 use Rattle.screen_change.specs.declared.change.Change.TheVariants.{Title}
 
--- texts as bytes, attributes and links by what they hold
+-- texts as bytes, attributes and links as their values
 abbrev pub value_of : Change → to.ChangeValue
 value_of (Attribute change) = to.Attribute (attribute_value change)
 value_of (AllAttributes attributes) = to.AllAttributes attributes

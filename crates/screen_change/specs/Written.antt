@@ -24,7 +24,7 @@ finished written = written.changes ++ map Text (texts written.cells)
 abbrev pub with_change : ChangeValue → Written → Written
 with_change change written = record written { changes = finished written ++ change ∷ []; cells = [] }
 
--- other attributes for the pen; nothing where it has them
+-- sets the pen's attributes; nothing changes where the pen has them
 abbrev pub with_attributes : Attributes → Written → Written
 with_attributes attributes written =
     if same_attributes attributes written.pen then written
@@ -39,6 +39,6 @@ with_cell text attributes written =
 abbrev pub with_each : List ℕ → Attributes → Written → Written
 with_each text attributes written = fold (λ w byte. with_cell (byte ∷ []) attributes w) written text
 
--- other cells, each in turn
+-- more cells, each in turn
 abbrev pub with_cells : Written → List CellContent → Written
 with_cells written cells = fold (λ w cell. with_cell cell.text cell.attributes w) written cells

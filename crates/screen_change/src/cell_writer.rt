@@ -77,8 +77,8 @@ impl<'a> CellWriter<'a> {
         Ok(())
     }
 
-    /// Writes a cell for each character of a text in printable ASCII (20h to 7Eh), all with the same attributes: these,
-    /// unless the pen has them, and the text.
+    /// Writes a cell for each character of a text in printable ASCII (20h to 7Eh), all with the same attributes: the
+    /// attributes, unless the pen has them, and the text.
     pub fn push_plain(&mut self, text: &str, attrs: &'a CellAttributes) -> Result<(), AllocError>
         requires { list_all is_printable text.now ≡ true }
         ensures { OnOk result (self.new ≡ with_each text.now attrs.now self.old) }
@@ -91,7 +91,7 @@ impl<'a> CellWriter<'a> {
         Ok(())
     }
 
-    /// Another change, after the cells that were written. Text after it is not joined to theirs.
+    /// Adds another change after the cells that were written. Text after it is not joined to theirs.
     pub fn push_change(&mut self, change: Change) -> Result<(), AllocError>
         ensures { OnOk result (self.new ≡ with_change (value_of change) self.old) }
     {
@@ -100,7 +100,7 @@ impl<'a> CellWriter<'a> {
         Ok(())
     }
 
-    /// A change that gives the pen these attributes, as a clear does, after the cells that were
+    /// Adds a change that gives the pen these attributes, as a clear does, after the cells that were
     /// written.
     pub fn push_clear(&mut self, change: Change, pen: &'a CellAttributes) -> Result<(), AllocError>
         ensures { OnOk result (self.new ≡ record (with_change (value_of change) self.old) { pen = pen.now }) }

@@ -25,7 +25,8 @@ pub enum Change {
     /// The columns from the cursor to the end of its row become blanks, none where a wrap is pending,
     /// and the pen becomes plain with that background.
     ClearToEndOfLine(ColorAttribute),
-    /// The columns from the cursor to the end of its row, and all rows below, become blanks.
+    /// The columns from the cursor to the end of its row, none where a wrap is pending, and all rows
+    /// below become blanks, and the pen becomes plain with that background.
     ClearToEndOfScreen(ColorAttribute),
     /// The cursor's position.
     CursorPosition {
@@ -44,7 +45,7 @@ pub enum Change {
     ScrollRegionUp {
         /// The region's first row, counted from 0.
         first_row: usize,
-        /// The number of rows of the region; rows past the screen's last row don't exist.
+        /// The number of rows of the region; rows below the screen's last row are ignored.
         region_size: usize,
         /// By how many rows they move, at most by all of them.
         scroll_count: usize,
@@ -53,7 +54,7 @@ pub enum Change {
     ScrollRegionDown {
         /// The region's first row, counted from 0.
         first_row: usize,
-        /// The number of rows of the region; rows past the screen's last row don't exist.
+        /// The number of rows of the region; rows below the screen's last row are ignored.
         region_size: usize,
         /// By how many rows they move, at most by all of them.
         scroll_count: usize,

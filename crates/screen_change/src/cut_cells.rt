@@ -46,7 +46,7 @@ impl CutCells {
         self.text.is_empty() && self.lens.is_empty()
     }
 
-    // A cell for each byte of a text follows.
+    // Appends a cell for each byte of a text.
     #[inline(always)]
     pub(crate) fn push_bytes(&mut self, text: &str) -> Result<(), AllocError>
         requires { list_all is_utf8 (each text.now) ≡ true }
@@ -56,7 +56,7 @@ impl CutCells {
         Ok(())
     }
 
-    // The lengths of all cells are kept.
+    // Stores the lengths of all cells.
     fn keep_lengths(&mut self) -> Result<(), AllocError>
         ensures cells { cells_of self.new ≡ cells_of self.old }
         ensures text { self.new.text ≡ self.old.text }
@@ -68,7 +68,7 @@ impl CutCells {
         Ok(())
     }
 
-    // A cell follows, whose length is kept.
+    // Appends a cell, and stores its length.
     fn push_sized(&mut self, text: &str) -> Result<(), AllocError>
         ensures { OnOk result (cells_of self.new ≡ cells_of self.old ++ text.now ∷ []) }
     {
@@ -80,7 +80,7 @@ impl CutCells {
         Ok(())
     }
 
-    // A cell follows.
+    // Appends a cell.
     #[inline(always)]
     pub(crate) fn push(&mut self, text: &str) -> Result<(), AllocError>
         ensures { OnOk result (cells_of self.new ≡ cells_of self.old ++ text.now ∷ []) }
@@ -99,7 +99,7 @@ impl CutCells {
         has_clusters(&self.text, &self.lens)
     }
 
-    // The joined text, which is taken out: no cell is left.
+    // Takes out the joined text; no cell is left.
     pub(crate) fn take_text(&mut self, alloc: Global) -> String
         ensures text { string_bytes result ≡ concat (cells_of self.old) }
         ensures cells { cells_of self.new ≡ [] }
@@ -109,7 +109,7 @@ impl CutCells {
         mem::replace(&mut self.text, String::new(alloc))
     }
 
-    // All cells go; the memory stays.
+    // Removes all cells, and keeps the memory.
     pub(crate) fn clear(&mut self)
         ensures { cells_of self.new ≡ [] }
     {
@@ -118,7 +118,7 @@ impl CutCells {
         self.sized_bytes = 0;
     }
 
-    // A text for each cell.
+    // Appends a `Change::Text` for each cell.
     fn push_each(&mut self, alloc: Global, changes: &mut Vec<Change>) -> Result<(), AllocError>
         ensures { OnOk result (map value_of changes.new.items
             ≡ map value_of changes.old.items ++ map Text (cells_of self.old)) }
@@ -128,7 +128,7 @@ impl CutCells {
         Ok(())
     }
 
-    // The texts that write the cells, of which none is left.
+    // Appends the texts that write the cells, and removes the cells.
     pub(crate) fn push_texts(
         &mut self,
         alloc: Global,

@@ -47,7 +47,7 @@ fn are_bytes(text: &str) -> bool
 // The largest number of cells tested together.
 const TESTED: usize = 32;
 
-// The first few lengths, or all if there are fewer.
+// The first `SHORT` lengths, or all if there are fewer.
 #[tactic(auto, using(std::proofs::lemmas::List::take_min))]
 fn first_tested(lens: &[usize]) -> &[usize]
     ensures { result.now ≡ take TESTED lens.now }
@@ -62,7 +62,7 @@ fn ones(lens: &[usize]) -> usize
     lens.iter().take_while(|len| **len == 1).count()
 }
 
-// A text and the lengths of its first cells without some plain cells at its start: all, or the first few.
+// Drops plain cells at the start of a text, at most `SHORT` of them, and their lengths; returns the rest of both.
 fn after_plain<'a>(text: &'a str, lens: &'a [usize]) -> (&'a str, &'a [usize])
     requires { bytes_of lens.now ≤ length text.now }
     ensures fewer { length result.1.now ≤ length lens.now }
@@ -75,7 +75,8 @@ fn after_plain<'a>(text: &'a str, lens: &'a [usize]) -> (&'a str, &'a [usize])
     (rest, left)
 }
 
-// Whether the clusters of a text are its cells, of which the first ones have these lengths.
+// Whether the clusters of a text are its cells: the first cells have the lengths `lens`, and after them each byte is
+// one.
 pub(crate) fn has_clusters(text: &str, lens: &[usize]) -> bool
     requires { bytes_of lens.now ≤ length text.now }
     ensures { result ≡ same_texts (graphemes true text.now) (cut_at lens.now text.now) }
@@ -92,7 +93,7 @@ pub(crate) fn has_clusters(text: &str, lens: &[usize]) -> bool
     are_bytes(rest)
 }
 
-// A text for each cell, whose lengths these are.
+// Appends a `Change::Text` for each cell; `lens` are the cells' lengths in bytes.
 pub(crate) fn push_each(
     alloc: Global,
     changes: &mut Vec<Change>,

@@ -17,7 +17,7 @@ pub record Stretch : Type 0 where
 abbrev pub cells_of : Stretch → List CellContent
 cells_of stretch = stretch.first ∷ stretch.remaining
 
--- a cell alone, and a cell before a stretch
+-- a stretch of one cell, and a stretch with a cell before it
 abbrev pub alone : PlacedCell → Stretch
 alone c = record { row = c.row; column = c.column; first = c.cell; remaining = [] }
 
@@ -31,7 +31,7 @@ before_stretches c (stretch ∷ stretches) =
     if c.row == stretch.row && c.column + c.cell.width == stretch.column then longer c stretch ∷ stretches
     else alone c ∷ stretch ∷ stretches
 
--- the cells in stretches, each as long as may be
+-- the cells in stretches, each as long as possible
 abbrev pub stretches : List PlacedCell → List Stretch
 stretches [] = []
 stretches (c ∷ cells) = before_stretches c (stretches cells)

@@ -6,14 +6,14 @@ use Rattle.screen_change.specs.Written.{Written, begun, with_change, with_cell}
 use Rattle.screen_difference.specs.Difference.{position}
 use Rattle.screen_difference.specs.FreshCells.{PlacedCell}
 
--- what is written so far, whether that is anything, and the row and the column after the last cell
+-- what is written so far, whether a cell was written, and the row and the column after the last cell
 pub record Drawing : Type 0 where
   pub written : Written
   pub has_begun : Bool
   pub row : ℕ
   pub column : ℕ
 
--- nothing yet; the pen is of no concern
+-- nothing written yet; the pen is a placeholder
 abbrev pub new_drawing : Attributes → Drawing
 new_drawing pen = record { written = begun pen; has_begun = false; row = 0; column = 0 }
 
@@ -30,7 +30,7 @@ next_moved row column d =
 abbrev pub moved_to : ℕ → ℕ → Attributes → Drawing → Written
 moved_to row column attributes d = if d.has_begun then next_moved row column d else first_moved row column attributes
 
--- another cell
+-- one more cell
 abbrev pub with_placed : Drawing → PlacedCell → Drawing
 with_placed d c =
     record {
@@ -40,6 +40,6 @@ with_placed d c =
       column = c.column + c.cell.width;
     }
 
--- other cells in turn
+-- more cells in turn
 abbrev pub with_all : Drawing → List PlacedCell → Drawing
 with_all d cells = fold with_placed d cells

@@ -17,7 +17,7 @@ drawn screen c =
 abbrev pub all_drawn : List PlacedCell → Screen → Screen
 all_drawn cells screen = fold drawn screen cells
 
--- the cell has its position on a screen of a size, and is as a screen has cells
+-- the cell has its position on a screen of this size, and is a cell that a screen can hold
 pub record HasPosition (width_of : List ℕ → ℕ) (width height : ℕ) (c : PlacedCell) : Type 0 where
   pub some : 1 ≤ c.cell.width
   pub most : c.cell.width ≤ 2

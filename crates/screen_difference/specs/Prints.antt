@@ -34,13 +34,13 @@ print_of width_of screen cluster =
     let at = wrapped_for width_of screen cluster in
     record { row = at.row; column = at.column; text = text_put width_of screen cluster }
 
--- a move prints nothing
+-- what a stroke prints: only a cluster prints
 abbrev pub stroke_prints : (List ℕ → ℕ) → Screen → Stroke → List PlacedText
 stroke_prints width_of screen CarriageReturn = []
 stroke_prints width_of screen LineFeed = []
 stroke_prints width_of screen (Cluster text) = print_of width_of screen text ∷ []
 
--- moves and clusters in turn: what they print, and whether one of them scrolls
+-- strokes in turn: what they print, and whether one of them scrolls
 abbrev pub strokes_print : (List ℕ → ℕ) → Screen → List Stroke → List PlacedText
 strokes_print width_of screen [] = []
 strokes_print width_of screen (stroke ∷ remaining) =
@@ -51,7 +51,7 @@ strokes_scroll width_of screen [] = false
 strokes_scroll width_of screen (stroke ∷ remaining) =
     scrolls width_of screen stroke || strokes_scroll width_of (stroke_on width_of screen stroke) remaining
 
--- the moves and clusters of a change's text; any other change has none
+-- the strokes of a change's text; any other change has none
 abbrev pub change_strokes : ChangeValue → List Stroke
 change_strokes (Text text) = strokes text
 change_strokes _ = []

@@ -4,19 +4,19 @@ use Rattle.cell_base.specs.Row.{Row, closed_end, closed_start}
 use Rattle.screen_difference.specs.FreshCells.{columns_from, shared_width}
 use Rattle.screen_effects.specs.Display.{Display}
 
--- columns are as they were, or a half at their edge was left alone
+-- columns are as they were, or a half of a wide cell at their edge has become a blank
 abbrev pub IsKept : (Row → Row) → Row → Row → Type 0
 IsKept closed before after = (after ≡ before) ⊎ (after ≡ closed before)
 
--- from a column on a row shows these columns, where a cell that an edge cuts counts as a blank; before and after them
--- it is as it was, except that the outer half of a wide cell across an edge may have become a blank
+-- from column `start` on a row shows these columns, where a cell that an edge cuts counts as a blank; before and after
+-- them it is as it was, except that the outer half of a wide cell across an edge may have become a blank
 pub record ShowsPart (start : ℕ) (columns before after : Row) : Type 0 where
   pub within : columns_from start (length columns) after ≡ columns
   pub prefix : IsKept closed_end (take start before) (take start after)
   pub back : IsKept closed_start (drop (start + length columns) before) (drop (start + length columns) after)
   pub width : length after ≡ length before
 
--- it shows some columns of a new row, from `other_x` on, as far as both have them
+-- the row shows some columns of a new row, from `other_x` on, as far as both rows have them
 abbrev pub ShowsRow : ℕ → ℕ → ℕ → Row → Row → Row → Type 0
 ShowsRow x other_x width new before after =
     ShowsPart x (columns_from other_x (shared_width width x before other_x new) new) before after
@@ -38,7 +38,7 @@ pub record ShowsRegion (x y width height : ℕ) (news : List Row) (other_x other
         (take height (drop y after))
     pub below : drop (y + height) after ≡ drop (y + height) before
 
--- the rows from one on show whole new ones
+-- the rows from row `y` on show whole new rows
 pub record ShowsLines (y : ℕ) (news before after : List Row) : Type 0 where
   pub above : take y after ≡ take y before
   pub within : RowsShow (λ new. ShowsRow 0 0 (length new) new) news (drop y before) (drop y after)

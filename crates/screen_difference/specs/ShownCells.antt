@@ -14,12 +14,12 @@ abbrev pub side_by_side : ℕ → List VisibleCell → List VisibleCell
 side_by_side at [] = []
 side_by_side at (v ∷ cells) = record v { column = at } ∷ side_by_side (at + v.cell.width) cells
 
--- there each ends at a number that a column can be
+-- side by side from that column on, each cell ends at a column below 2^64
 abbrev pub HaveRoom : ℕ → List VisibleCell → Type 0
 HaveRoom at [] = ⊤
 HaveRoom at (v ∷ cells) = (at + v.cell.width < 2 ^ 64) × HaveRoom (at + v.cell.width) cells
 
--- the remaining cells
+-- the cells that are not passed yet
 abbrev pub shown_left : ShownCells → List VisibleCell
 shown_left s = side_by_side s.column (region_left s.cells)
 
@@ -31,7 +31,7 @@ abbrev pub from_column : ℕ → List VisibleCell → List VisibleCell
 from_column column [] = []
 from_column column (old ∷ olds) = if nat_lt old.column column then from_column column olds else old ∷ olds
 
--- whether the first of them begins at a column and is this cell
+-- whether the first cell begins at `column` and is the same as `cell`
 abbrev pub begins_with : List VisibleCell → ℕ → CellContent → Bool
 begins_with [] column cell = false
 begins_with (old ∷ olds) column cell = old.column == column && same_cell old.cell cell

@@ -47,7 +47,7 @@ fn position(column: usize, row: usize) -> Change
 }
 
 impl<'a> DifferenceWriter<'a> {
-    /// No changes yet. The attributes are of no concern.
+    /// No changes yet. `attrs` is a placeholder: the first cell sets its own attributes.
     pub(crate) fn new(alloc: Global, attrs: &'a CellAttributes) -> DifferenceWriter<'a>
         ensures { result ≡ new_drawing attrs.now }
     {
@@ -60,7 +60,7 @@ impl<'a> DifferenceWriter<'a> {
         }
     }
 
-    // The position and the attributes of the first cell.
+    // Writes the position and the attributes of the first cell.
     fn begin(
         &mut self,
         row: usize,
@@ -76,7 +76,8 @@ impl<'a> DifferenceWriter<'a> {
         Ok(())
     }
 
-    // Writes what precedes a cell: its position, unless the last cell ends there.
+    // Writes what precedes a cell: its position, unless the last cell ends there, and before the first cell its
+    // attributes.
     fn move_to(
         &mut self,
         row: usize,

@@ -13,7 +13,7 @@ use crate::shown_cells::ShownCells;
 use cell_line::{CellRef, RegionIter};
 use std::alloc::AllocError;
 
-/// Writes a cell, unless the old ones show it.
+/// Writes a cell, unless the old cells show it.
 pub(crate) fn write_cell<'a>(
     writer: &mut DifferenceWriter<'a>,
     row: usize,
@@ -34,8 +34,8 @@ pub(crate) fn write_cell<'a>(
     writer.push(row, column, cell)
 }
 
-// Writes the fresh ones of the next remaining cells: as many plain ones as come next, or another one. Returns how many
-// columns they take; 0 where none is left.
+// Writes the fresh cells among the next new cells: a run of plain cells, or one other cell. Returns how many columns
+// the compared cells take; 0 where no new cell is left.
 fn write_next<'a>(
     writer: &mut DifferenceWriter<'a>,
     row: usize,
@@ -67,7 +67,7 @@ fn write_next<'a>(
     Ok(cell.width())
 }
 
-/// Writes the new cells, which are side by side from a column on, that the old ones don't show.
+/// Writes those of the new cells that the old cells don't show. The new cells are side by side from a column on.
 pub(crate) fn write_cells<'a>(
     writer: &mut DifferenceWriter<'a>,
     row: usize,

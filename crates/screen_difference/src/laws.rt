@@ -34,8 +34,8 @@ pub fn differences_draw_their_cells()
 
 /// A difference, replayed on the old side, leaves in the region what the new side shows there, where
 /// a cell that the region's edge cuts counts as a blank on both sides; outside of it only halves of
-/// wide cells across its edge change. Of screens of one size the rows become the new ones. The new
-/// rows are whole, and their texts sound.
+/// wide cells across its edge change. For screens of one size the rows become the new ones. This needs new
+/// rows that are whole, with sound texts.
 pub fn differences_show_the_new_side()
     ensures region { (width_of : List ℕ → ℕ) (display : Display) (x : ℕ) (y : ℕ) (width : ℕ) (rows : ℕ)
         (news : List Row) (other_x : ℕ) (other_y : ℕ) → width_of space ≡ 1 → IsDisplay display → All IsWhole news

@@ -42,7 +42,7 @@ pub fn texts_stand_where_they_are_put()
         → row_text (cluster_columns width_of screen cluster) ≡ text_put width_of screen cluster }
 {}
 
-/// What lists of changes print, one after the other.
+/// Two joined lists of changes print what the first list prints, and then what the second prints after it.
 pub fn prints_join()
     ensures prints { (width_of : List ℕ → ℕ) (display : Display) (first : List ChangeValue) (second : List ChangeValue)
         → changes_print width_of display (first ++ second)

@@ -12,15 +12,15 @@ use cell_line::Line;
 use screen_change::Change;
 use std::alloc::{AllocError, Global};
 
-// The lines from one on.
+// The lines from index `row` on.
 fn lines_from(lines: &[Line], row: usize) -> &[Line]
     ensures { result.now ≡ drop row lines.now }
 {
     &lines[row.min(lines.len())..]
 }
 
-// Writes the fresh cells of some columns of lines in turn, the first against the old line of this
-// number.
+// Writes the fresh cells of some columns of new lines in turn, each against the old line at the same index; the first
+// old line is row `number`.
 fn write_region<'a>(
     writer: &mut DifferenceWriter<'a>,
     number: usize,
@@ -42,7 +42,7 @@ fn write_region<'a>(
     Ok(())
 }
 
-// Writes whole lines row by row, as far as both sides have lines.
+// Writes the fresh cells of whole lines, row by row from row `number` on, as far as both sides have lines.
 fn write_lines<'a>(
     writer: &mut DifferenceWriter<'a>,
     number: usize,
@@ -63,7 +63,7 @@ fn write_lines<'a>(
     Ok(())
 }
 
-// The changes of `diff_region`. The attributes are of no concern.
+// The changes of `diff_region`. `attrs` is a placeholder.
 fn region_changes<'a>(
     alloc: Global,
     attrs: &'a CellAttributes,
@@ -96,8 +96,8 @@ fn region_changes<'a>(
     Ok(changes)
 }
 
-/// The changes that make a region of some lines, whose top left is at column `x` and row `y`, show
-/// what the region of other lines at `other_x` and `other_y` shows. Columns and rows that either side
+/// The changes that make a region of `lines`, whose top left is at column `x` and row `y`, show what the
+/// region of `remaining`, the new side, at `other_x` and `other_y` shows. Columns and rows that either side
 /// lacks are left out, and a cell that an edge cuts counts as a blank with its attributes.
 pub fn diff_region(
     alloc: Global,
@@ -121,7 +121,7 @@ pub fn diff_region(
     Ok(changes)
 }
 
-// The changes of `diff_lines`. The attributes are of no concern.
+// The changes of `diff_lines`. `attrs` is a placeholder.
 fn line_changes<'a>(
     alloc: Global,
     attrs: &'a CellAttributes,
@@ -138,7 +138,7 @@ fn line_changes<'a>(
     Ok(changes)
 }
 
-/// The changes that make the first of `lines` show what `remaining` shows, line by line.
+/// The changes that make the first of `lines` show the lines of `remaining`, which is the new side, line by line.
 pub fn diff_lines(
     alloc: Global,
     lines: &[Line],
@@ -153,7 +153,7 @@ pub fn diff_lines(
     Ok(changes)
 }
 
-// The changes of `diff_against_numbered_line`. The attributes are of no concern.
+// The changes of `diff_against_numbered_line`. `attrs` is a placeholder.
 fn numbered_line_changes<'a>(
     alloc: Global,
     attrs: &'a CellAttributes,
@@ -189,7 +189,7 @@ pub fn diff_against_numbered_line(
 }
 
 /// The changes that make the lines of a screen of `width` columns show what the lines of another
-/// screen show.
+/// screen, `remaining`, show.
 pub fn diff_screens(
     alloc: Global,
     width: usize,

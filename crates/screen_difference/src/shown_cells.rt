@@ -15,7 +15,7 @@ pub(crate) struct ShownCells<'a> {
 }
 
 impl<'a> ShownCells<'a> {
-    /// All of them, from a column on.
+    /// The cells of `cells`, side by side from a column on, of which none is passed.
     pub(crate) fn new(column: usize, cells: RegionIter<'a>) -> ShownCells<'a>
         requires { HaveRoom column (region_left cells) }
         ensures shown { shown_left result ≡ side_by_side column (region_left cells.entry) }
@@ -24,7 +24,7 @@ impl<'a> ShownCells<'a> {
         ShownCells { column, cells }
     }
 
-    // Passes the first cell and says whether it is the same as another one.
+    // Passes the first cell, and returns whether it is the same as `cell`; `false` where no cell is left.
     fn pass_cell(&mut self, cell: &CellRef<'_>) -> bool
         requires { Fits self.old }
         ensures shown { result ≡ begins_with (shown_left self.old) self.old.column (shown_by cell.now).cell }
@@ -67,8 +67,8 @@ impl<'a> ShownCells<'a> {
         }
     }
 
-    /// Whether a cell begins at a column and is the same as another one. The cells that begin before the column and
-    /// there are passed.
+    /// Whether an old cell begins at `column` and is the same as `cell`. The old cells that begin at `column` or before
+    /// it are passed.
     pub(crate) fn shows(&mut self, column: usize, cell: &CellRef<'_>) -> bool
         requires { Fits self.old }
         ensures shown { result

@@ -37,13 +37,13 @@ cursor_row screen = slice_index_or screen.rows screen.row []
 abbrev pub cleared_after : ℕ → ColorAttribute → Row → Row
 cleared_after column color row = set_columns row column (blank_row (length row - column) color)
 
--- all rows, and the cursor is home
+-- clears all rows, and moves the cursor home
 abbrev pub cleared_screen : ColorAttribute → Screen → Screen
 cleared_screen color screen =
     record screen
     { rows = map (λ _. blank_row screen.width color) screen.rows; column = 0; row = 0; pen = blank_of color }
 
--- the cursor's row from its column on; where a wrap is pending, nothing of it
+-- clears the cursor's row from the cursor's column on; where a wrap is pending, nothing of it
 abbrev pub cleared_line : ColorAttribute → Screen → Screen
 cleared_line color screen =
     record screen {
@@ -51,7 +51,7 @@ cleared_line color screen =
       pen = blank_of color;
     }
 
--- and all rows below
+-- as `cleared_line`, and clears all rows below
 abbrev pub cleared_below : ColorAttribute → Screen → Screen
 cleared_below color screen = record screen {
   rows =
@@ -60,7 +60,7 @@ cleared_below color screen = record screen {
   pen = blank_of color;
 }
 
--- ---- regions: rows that come are plain and have single width
+-- ---- regions: rows that enter are plain and have single width
 
 abbrev pub scrolled_up : ℕ → ℕ → ℕ → Display → Display
 scrolled_up first size count display = record display {
@@ -107,6 +107,6 @@ effect width_of display (ScrollRegionUp first size count) = scrolled_up first si
 effect width_of display (ScrollRegionDown first size count) = scrolled_down first size count display
 effect width_of display (Title title) = on_screen (λ screen. record screen { title = title }) display
 
--- the changes in turn
+-- the display after each of the changes in turn
 abbrev pub replay : (List ℕ → ℕ) → Display → List ChangeValue → Display
 replay width_of display changes = fold (effect width_of) display changes

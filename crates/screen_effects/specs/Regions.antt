@@ -1,11 +1,11 @@
 -- Regions of rows, whose rows move up or down. Rows that move past the region's edge are dropped.
 use Rattle.std.specs.Prelude.{ℕ, ◌+◌, ◌-◌, List, ◌++◌, length, take, drop, min, replicate}
 
--- the elements move to the start by `count`, and as many new ones follow as leave
+-- the elements move towards the start by `count`, and as many new ones are added at the end as leave
 abbrev pub moved_up : {A : Type 0} → A → ℕ → List A → List A
 moved_up new count xs = drop count xs ++ replicate (min count (length xs)) new
 
--- or to the end, and the new ones come before
+-- the elements move towards the end by `count`, and as many new ones are added at the start as leave
 abbrev pub moved_down : {A : Type 0} → A → ℕ → List A → List A
 moved_down new count xs = replicate (min count (length xs)) new ++ take (length xs - count) xs
 

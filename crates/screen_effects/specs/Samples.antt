@@ -17,7 +17,7 @@ abbrev pub seen_on : Display → Seen
 seen_on display =
     record { rows = map row_text display.screen.rows; column = display.screen.column; row = display.screen.row }
 
--- of a new display of a size after some changes
+-- what a new display of a size shows after some changes
 abbrev pub seen : ℕ → ℕ → List ChangeValue → Seen
 seen width height changes = seen_on (replay program_width (new_display width height) changes)
 

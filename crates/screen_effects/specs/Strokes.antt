@@ -14,12 +14,12 @@ pub data TextPart : Type 0 where
   Control : ℕ → TextPart
   Plain : List ℕ → TextPart
 
--- a byte goes before the first part if that is a text without controls
+-- puts a byte before the parts: in the first part if that is a text without controls, else as a part of its own
 abbrev pub with_byte : ℕ → List TextPart → List TextPart
 with_byte byte (Plain text ∷ parts) = Plain (byte ∷ text) ∷ parts
 with_byte byte parts = Plain (byte ∷ []) ∷ parts
 
--- a text cut at its controls: each by itself, and between them texts as long as may be
+-- a text cut at its controls: each control by itself, and between them texts as long as possible
 abbrev pub text_parts : List ℕ → List TextPart
 text_parts [] = []
 text_parts (byte ∷ text) =
@@ -48,14 +48,14 @@ stroke_on width_of screen CarriageReturn = carriage_return screen
 stroke_on width_of screen LineFeed = line_feed screen
 stroke_on width_of screen (Cluster text) = put width_of screen text
 
--- whether it needs the next row
+-- whether a stroke needs the next row
 abbrev pub needs_next_row : (List ℕ → ℕ) → Screen → Stroke → Bool
 needs_next_row width_of screen CarriageReturn = false
 needs_next_row width_of screen LineFeed = true
 needs_next_row width_of screen (Cluster text) =
     nat_lt screen.width (screen.column + length (cluster_columns width_of screen text))
 
--- whether the rows scroll for it: the cursor is in the last one, and it needs the next
+-- whether the rows scroll for a stroke: the cursor is in the last row, and the stroke needs the next one
 abbrev pub scrolls : (List ℕ → ℕ) → Screen → Stroke → Bool
 scrolls width_of screen stroke = screen.row + 1 == height screen && needs_next_row width_of screen stroke
 

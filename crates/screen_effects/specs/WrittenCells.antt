@@ -27,7 +27,7 @@ abbrev pub AreSound : (List ℕ → ℕ) → List CellContent → Type 0
 AreSound width_of [] = ⊤
 AreSound width_of (cell ∷ cells) = IsSoundText width_of cell.text (nat_le 2 cell.width) × AreSound width_of cells
 
--- and each cell of a row
+-- each cell of a row has a sound text
 abbrev pub IsSoundRow : (List ℕ → ℕ) → Row → Type 0
 IsSoundRow width_of [] = ⊤
 IsSoundRow width_of (Narrow text attributes ∷ row) = IsSoundText width_of text false × IsSoundRow width_of row
@@ -38,12 +38,13 @@ IsSoundRow width_of (RightHalf attributes ∷ row) = IsSoundRow width_of row
 abbrev pub joined_columns : List CellContent → Row
 joined_columns cells = flat_map (λ cell. columns_of cell.text (nat_le 2 cell.width) cell.attributes) cells
 
--- the columns of cells from the cursor on, which goes after them, and the pen of the last one
+-- the display after cells are written at the cursor: the cursor is after them, and the pen has the last one's
+-- attributes
 abbrev pub with_cells : List CellContent → Display → Display
 with_cells cells display =
     on_screen (λ screen. with_pen (last_pen screen.pen cells) (write_columns (joined_columns cells) screen)) display
 
--- each cell of a display
+-- each cell of a display has a sound text
 abbrev pub IsSoundDisplay : (List ℕ → ℕ) → Display → Type 0
 IsSoundDisplay width_of display = All (IsSoundRow width_of) display.screen.rows
 

@@ -11,7 +11,7 @@ ghost use Rattle.screen_effects.specs.Effect.{replay};
 ghost use Rattle.screen_effects.specs.Resize.{resized};
 ghost use Rattle.screen_effects.specs.Samples.{Seen, seen, seen_on, at, wide_letter, shrug, zero_width_between};
 
-/// Texts go on in the next row, and scroll at the last; CR and LF move.
+/// Texts go on in the next row, and scroll in the last one; CR and LF move the cursor.
 pub fn texts_in_rows()
     ensures moves { seen 4 4 (Text (codes "bloo\rwat\n hey\r\nho") ∷ [])
         ≡ record { rows = codes "wato" ∷ codes "    " ∷ codes "hey " ∷ codes "ho  " ∷ []; column = 2; row = 3 } }
@@ -43,8 +43,8 @@ pub fn clears()
         ≡ record { rows = codes "hel" ∷ codes "w  " ∷ codes "   " ∷ []; column = 1; row = 1 } }
 {}
 
-/// Positions: of two numbers, relative to the current position, and from the end; the width is the column of a pending
-/// wrap.
+/// Positions: absolute, relative to the current position, and from the end; the cursor's column is the width while a
+/// wrap is pending.
 pub fn positions()
     ensures relative { seen 4 3
         (at 3 2 ∷ Text (codes "X") ∷ CursorPosition (Relative (negsuc 1)) (Relative (negsuc 0)) ∷ Text (codes "-")
@@ -60,8 +60,8 @@ pub fn positions()
         ≡ record { rows = codes "    " ∷ codes "    " ∷ codes "    " ∷ []; column = 0; row = 0 } }
 {}
 
-/// Wide cells: a half that is left alone is a blank, and one that doesn't fit begins the next row; on one column it is
-/// a space.
+/// Wide cells: a half that is left alone is a blank. A wide cell that doesn't fit in a row begins the next one; on a
+/// screen of one column it is a space.
 pub fn wide_cells()
     ensures text { seen 4 1 (Text (shrug ++ codes "12") ∷ [])
         ≡ record { rows = (shrug ++ codes "12") ∷ []; column = 4; row = 0 } }

@@ -11,7 +11,7 @@ ghost use Rattle.screen_effects.specs.Resize.{resized};
 ghost use Rattle.screen_effects.specs.WrittenCells.{AreSound, HasUtf8, IsSoundDisplay, joined_columns, with_cells};
 
 /// The changes that write some cells, which fit in the cursor's row, set their columns from the
-/// cursor on and leave it after them; the pen is the last one's.
+/// cursor on and leave the cursor after them; the pen then has the last cell's attributes.
 pub fn written_cells_are_shown()
     ensures { (width_of : List ℕ → ℕ) (display : Display) (cells : List CellContent) → IsDisplay display
         → AreSound width_of cells → 0 < length cells

@@ -38,7 +38,7 @@ color_code layer (TrueColorWithDefaultFallback c) =
 color_code layer (TrueColorWithPaletteFallback c n) =
     59 ∷ (layer ++ (codes ";2;" ++ (decimal c.0 ++ 59 ∷ (decimal c.1 ++ 59 ∷ decimal c.2))))
 
--- with `:`, so that a terminal which doesn't know it passes over it as a whole
+-- the underline colour, 58, has its parts after `:`, so that a terminal which doesn't know 58 skips it as a whole
 unfoldable pub underline_color_code : ColorAttribute → Text
 underline_color_code Default = []
 underline_color_code (PaletteIndex n) = codes ";58:5:" ++ decimal n
@@ -54,11 +54,11 @@ color_codes a =
 
 -- ---- runs and rows
 
--- a URI that holds nothing but printable ASCII
+-- the URI, if it holds only printable ASCII; else none
 abbrev pub printable_uri : Text → Text
 printable_uri uri = if list_all is_printable uri then uri else []
 
--- in a link, where there is one
+-- a text in a link (OSC 8), where the URI isn't empty
 unfoldable pub linked_text : Text → Text → Text
 linked_text uri text =
     if length uri == 0 then text else 27 ∷ (codes "]8;;" ++ (uri ++ 27 ∷ 92 ∷ (text ++ 27 ∷ codes "]8;;\u{1b}\\")))
@@ -70,7 +70,7 @@ ansi_run run =
     ++ (rendition_codes run.attributes
     ++ (color_codes run.attributes ++ 109 ∷ linked_text (printable_uri (link_uri run.attributes)) run.text)))
 
--- plain attributes and a line feed
+-- the end of a row: SGR 0 and a line feed
 abbrev pub row_end : Text
 row_end = 27 ∷ 91 ∷ 48 ∷ 109 ∷ 10 ∷ []
 

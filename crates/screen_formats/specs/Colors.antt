@@ -43,7 +43,7 @@ palette_color n =
 
 -- ---- the colours of a cell
 
--- the default colours are shown as white on black, of the palette
+-- the default colours are shown as the palette's white (7) on black (0)
 abbrev pub default_foreground : Rgb
 default_foreground = palette_color 7
 
@@ -60,20 +60,20 @@ abbrev pub foreground_color : Attributes → Rgb
 foreground_color a =
     if a.reverse then color_of default_background a.background else color_of default_foreground a.foreground
 
--- the colour of the background; reverse video swaps it with that of the text
+-- the background colour; reverse video swaps it with the foreground colour
 abbrev pub background_color : Attributes → Rgb
 background_color a = if a.reverse then color_of default_foreground a.foreground else color_of default_background a.background
 
 abbrev pub midway : Rgb → Rgb → Rgb
 midway one other = ((one.0 + other.0) / 2, (one.1 + other.1) / 2, (one.2 + other.2) / 2)
 
--- the colour of a text of half intensity is midway to that of the background
+-- a foreground of half intensity is midway to the background
 abbrev pub dimmed : Intensity → Rgb → Rgb → Rgb
 dimmed Normal text background = text
 dimmed Bold text background = text
 dimmed Half text background = midway text background
 
--- the colour of the text; that of the background where the text is hidden
+-- the colour in which a text is drawn; the background colour where the text is invisible
 abbrev pub text_color : Attributes → Rgb
 text_color a = if a.invisible then background_color a else dimmed a.intensity (foreground_color a) (background_color a)
 

@@ -1,4 +1,4 @@
--- What is read of a text of HTML or XML: its tags are passed over.
+-- The text content of HTML or XML: its tags are skipped.
 use Rattle.std.specs.Prelude.{◌≡◌, ◌==◌, ⊤, ℕ, Bool, true, false, List, [], ◌∷◌, ◌++◌, Option, if◌then◌else◌}
 use Rattle.std.specs.List.{flat_map, list_any}
 use Rattle.cell_base.specs.Row.{Row}
@@ -19,7 +19,7 @@ untagged false (b ∷ text) = if b == 60 then untagged true text else b ∷ unta
 abbrev pub content : List ℕ → Option (List ℕ)
 content text = unescaped (untagged false text)
 
--- what is read of tokens
+-- the text content of tokens
 abbrev pub token_content : Markup → Token → List ℕ
 token_content markup (Opening name attributes) = []
 token_content markup (Closing name) = []
@@ -52,10 +52,10 @@ AreTagged (token ∷ tokens) = IsNamed token × AreTagged tokens
 abbrev pub row_content : Markup → Row → List ℕ
 row_content markup row = flat_map (λ run. held_text markup run.text) (runs_of (visible_cells row))
 
--- what is read of a screen as HTML: its rows, each with a line feed, and a line feed after the screen
+-- the text content of a screen as HTML: its rows, each with a line feed, and a line feed after the screen
 abbrev pub html_content : Screen → List ℕ
 html_content screen = flat_map (λ row. row_content Html row ++ 10 ∷ []) screen.rows ++ 10 ∷ []
 
--- and as SVG: its title and its rows
+-- the text content of a screen as SVG: its title and its rows, and a line feed after the screen
 abbrev pub svg_content : Screen → List ℕ
 svg_content screen = held_text Xml screen.title ++ (flat_map (row_content Xml) screen.rows ++ 10 ∷ [])

@@ -8,7 +8,7 @@ use Rattle.std.specs.Str.{chars, bytes_eq}
 use Rattle.screen_formats.specs.declared.escape.Markup.{Markup}
 use Rattle.screen_formats.specs.declared.escape.Markup.TheVariants.{Html, Xml}
 
--- ---- what is written
+-- ---- escaping
 
 -- the characters that a text of HTML can hold, all but NUL, and of XML (XML 1.0, production 2: Char)
 abbrev pub can_hold : Markup → ℕ → Bool
@@ -23,7 +23,7 @@ held markup c = if can_hold markup c then c else 0xFFFD
 abbrev pub held_text : Markup → List ℕ → List ℕ
 held_text markup text = flat_map (λ c. encode_utf8 (held markup c)) (chars text)
 
--- the entity that is written for `&`, `<`, `>`, `"` and `'`, and for CR, which a reader would take for a line feed
+-- the character reference of `&`, `<`, `>`, `"` and `'`, and of CR, which a parser would take for a line feed
 abbrev pub entity_of : ℕ → Option (List ℕ)
 entity_of c =
     if c == 38 then Some (codes "&amp;") else
@@ -39,9 +39,9 @@ escaped_char c = unwrap_or (entity_of c) (encode_utf8 c)
 abbrev pub escaped : Markup → List ℕ → List ℕ
 escaped markup text = flat_map (λ c. escaped_char (held markup c)) (chars text)
 
--- ---- what is read
+-- ---- unescaping
 
--- the character of the name between `&` and `;`
+-- the character of a reference, by the name between `&` and `;`
 abbrev pub named : List ℕ → Option ℕ
 named name =
     if bytes_eq name (codes "amp") then Some 38 else
@@ -51,14 +51,14 @@ named name =
     (if bytes_eq name (codes "#39") then Some 39 else
     (if bytes_eq name (codes "#13") then Some 13 else None)))))
 
--- what ends a text: the start or end of a tag, or the end of a value in quotes
+-- a byte that ends a text: the start or end of a tag, or a quote, which ends a value
 abbrev pub is_markup : ℕ → Bool
 is_markup b = b == 60 || b == 62 || b == 34 || b == 39
 
 abbrev pub put_before : List ℕ → Option (List ℕ) → Option (List ℕ)
 put_before prefix text = option_map (λ t. prefix ++ t) text
 
--- what a text reads as, after the name so far of an entity or after none
+-- the unescaped text, after the name of a reference so far or outside of a reference
 abbrev pub read_after : Option (List ℕ) → List ℕ → Option (List ℕ)
 read_after None [] = Some []
 read_after (Some name) [] = None
@@ -69,6 +69,6 @@ read_after (Some name) (b ∷ text) =
     if b == 59 then option_and_then (λ c. put_before (c ∷ []) (read_after None text)) (named name)
     else read_after (Some (name ++ b ∷ [])) text
 
--- what a text reads as: nothing where it holds the start or end of a tag, a quote, or an entity of another name
+-- the unescaped text; `None` where the text holds the start or end of a tag, a quote, or a reference of another name
 abbrev pub unescaped : List ℕ → Option (List ℕ)
 unescaped text = read_after None text

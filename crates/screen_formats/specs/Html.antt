@@ -16,11 +16,12 @@ use Rattle.screen_formats.specs.declared.escape.Markup.TheVariants.{Html}
 abbrev pub background_style : Attributes → List ℕ
 background_style a = if has_background a then color_style (codes "background-color") (hex_color (background_color a)) else []
 
--- whether a font may give other widths to cells than as many digits have: to those of two columns, and to all but ASCII
+-- whether a font may draw cells wider or narrower than their columns of digits: cells of two columns, and texts that
+-- aren't printable ASCII
 abbrev pub is_uneven : Run → Bool
 is_uneven run = run.width == 2 || not (list_all is_printable run.text)
 
--- uneven cells take their columns whatever the font; `ch` is the width of a digit
+-- uneven cells get the width of their columns, in `ch`, the width of a digit, whatever the font
 abbrev pub width_style : Bool → ℕ → List ℕ
 width_style is_set columns =
     if is_set then codes "display:inline-block;width:" ++ decimal columns ++ codes "ch;" else []
@@ -28,11 +29,11 @@ width_style is_set columns =
 abbrev pub text_style : Attributes → List ℕ
 text_style a = color_style (codes "color") (hex_color (text_color a))
 
--- the style of cells that take some columns, which are set or those of the font
+-- the style of cells of some columns, whose width is set or left to the font
 unfoldable pub html_style : Attributes → Bool → ℕ → List ℕ
 html_style a is_set columns = text_style a ++ (background_style a ++ (rendition_style a ++ width_style is_set columns))
 
--- a link where there is one
+-- the name of a run's element: `a` where it has a link
 abbrev pub html_name : List ℕ → List ℕ
 html_name uri = if length uri == 0 then codes "span" else codes "a"
 

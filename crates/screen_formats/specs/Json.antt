@@ -18,7 +18,7 @@ use Rattle.screen_formats.specs.Links.{link_uri}
 use Rattle.screen_formats.specs.Renditions.{rendition_words}
 use Rattle.screen_formats.specs.Runs.{Run, runs_of}
 
--- nothing where no colour was set, the number of one of the palette, and `#rrggbb` for any other
+-- a colour: empty for the default colour, the index of a palette colour, and `#rrggbb` for any other
 unfoldable pub color_text : ColorAttribute → List ℕ
 color_text Default = []
 color_text (PaletteIndex n) = decimal n

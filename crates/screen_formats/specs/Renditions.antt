@@ -16,12 +16,12 @@ use Rattle.screen_formats.specs.Colors.{color_of, hex_color, text_color, is_defa
 abbrev pub Text : Type 0
 Text = List ℕ
 
--- the text where something holds
+-- a text where a condition holds, and else the empty one
 abbrev pub text_if : Bool → Text → Text
 text_if holds text = if holds then text else []
 
--- a rendition: its word, with a space after it; its parameter of SGR (ECMA-48 8.3.117), after a `;`; and its declaration
--- of CSS
+-- a rendition: its word, with a space after it; its parameter of SGR (ECMA-48 8.3.117), after a `;`; and its
+-- declaration of CSS
 pub record Rendition : Type 0 where
   pub word : Text
   pub code : Text
@@ -30,13 +30,13 @@ pub record Rendition : Type 0 where
 abbrev pub plain_rendition : Rendition
 plain_rendition = record { word = []; code = []; style = [] }
 
--- how bright a text is
+-- the rendition of an intensity
 abbrev pub intensity_rendition : Intensity → Rendition
 intensity_rendition Normal = plain_rendition
 intensity_rendition Bold = record { word = codes "bold "; code = codes ";1"; style = codes "font-weight:bold;" }
 intensity_rendition Half = record { word = codes "dim "; code = codes ";2"; style = [] }
 
--- the line under a text
+-- the rendition of an underline
 abbrev pub underline_rendition : Underline → Rendition
 underline_rendition no_underline = plain_rendition
 underline_rendition Single = record { word = codes "underline "; code = codes ";4"; style = [] }
@@ -49,19 +49,19 @@ underline_rendition Dotted =
 underline_rendition Dashed =
     record { word = codes "dashed-underline "; code = codes ";4:5"; style = codes "text-decoration-style:dashed;" }
 
--- whether a text blinks
+-- the rendition of blinking
 abbrev pub blink_rendition : Blink → Rendition
 blink_rendition no_blink = plain_rendition
 blink_rendition Slow = record { word = codes "blink "; code = codes ";5"; style = [] }
 blink_rendition Rapid = record { word = codes "rapid-blink "; code = codes ";6"; style = [] }
 
--- whether a text is raised or lowered
+-- the rendition of superscripts and subscripts
 abbrev pub align_rendition : VerticalAlign → Rendition
 align_rendition BaseLine = plain_rendition
 align_rendition SuperScript = record { word = codes "superscript "; code = codes ";73"; style = [] }
 align_rendition SubScript = record { word = codes "subscript "; code = codes ";74"; style = [] }
 
--- ---- the words of all looks
+-- ---- the words of all renditions
 
 abbrev pub rendition_words : Attributes → Text
 rendition_words a =
@@ -77,7 +77,7 @@ rendition_words a =
 
 -- ---- declarations of CSS
 
--- the lines of a text: under it, above it and through it
+-- the value of `text-decoration`: the lines under, above and through a text
 abbrev pub lines_style : Attributes → Text
 lines_style a =
     text_if (is_underlined a.underline) (codes "underline ") ++ text_if a.overline (codes "overline ")
@@ -95,7 +95,7 @@ underline_color_style a =
     if is_default a.underline_color then []
     else color_style (codes "text-decoration-color") (hex_color (color_of (text_color a) a.underline_color))
 
--- how a text looks, less its colours
+-- the renditions of attributes as declarations, without the foreground and the background
 abbrev pub rendition_style : Attributes → Text
 rendition_style a =
     (intensity_rendition a.intensity).style

@@ -3,7 +3,7 @@ use Rattle.std.specs.Prelude.{◌+◌, List, [], ◌∷◌, ◌++◌, if◌then�
 use Rattle.cell_edits.specs.VisibleCells.{VisibleCell}
 use Rattle.screen_formats.specs.Runs.{Run, goes_on, run_of}
 
--- the run with a cell after its cells
+-- a run with one more cell after its cells
 abbrev pub grown : Run → VisibleCell → Run
 grown run v = record run { columns = run.columns + v.cell.width; text = run.text ++ v.cell.text }
 

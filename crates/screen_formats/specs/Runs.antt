@@ -22,7 +22,7 @@ abbrev pub first_width : List VisibleCell → ℕ
 first_width [] = 1
 first_width (v ∷ cells) = v.cell.width
 
--- what cells that look alike are as a run
+-- the run of cells of the same attributes and width
 abbrev pub run_of : List VisibleCell → Run
 run_of cells =
     record {
@@ -33,7 +33,7 @@ run_of cells =
       text = texts_joined cells;
     }
 
--- whether a cell looks as those of a run: it has the same attributes, and takes as many columns
+-- whether a cell goes on a run: it has the attributes of the run's cells, and takes as many columns
 abbrev pub goes_on : Run → VisibleCell → Bool
 goes_on run v = same_attributes run.attributes v.cell.attributes && run.width == v.cell.width
 

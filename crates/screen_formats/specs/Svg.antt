@@ -35,14 +35,14 @@ rectangle x y width height fill opacity =
     ((codes "x", x) ∷ (codes "y", y) ∷ (codes "width", width) ∷ (codes "height", height) ∷ (codes "fill", fill)
     ∷ (codes "fill-opacity", opacity) ∷ []) []
 
--- a text that is as long as its columns, of which no space is dropped
+-- an element of a text that is as long as its columns and keeps all its spaces
 unfoldable pub placed_text : Text → Text → Text → Text → Text → Text → List Token
 placed_text x y len words style text =
     element (codes "text")
     ((codes "x", x) ∷ (codes "y", y) ∷ (codes "textLength", len) ∷ (codes "xml:space", codes "preserve")
     ∷ (codes "class", words) ∷ (codes "style", style) ∷ []) text
 
--- in a link, where there is one
+-- elements in a link, where the URI isn't empty
 abbrev pub linked : Text → List Token → List Token
 linked uri tokens =
     if length uri == 0 then tokens
@@ -53,7 +53,7 @@ linked uri tokens =
 unfoldable pub svg_style : Attributes → Text
 svg_style a = color_style (codes "fill") (hex_color (text_color a)) ++ rendition_style a
 
--- the background of a run, if a colour is seen there
+-- the rectangle behind a run, if the run has a background
 unfoldable pub svg_background : ℕ → Run → List Token
 svg_background row run =
     if has_background run.attributes
@@ -70,7 +70,7 @@ svg_text_of row run = linked (link_uri run.attributes) (svg_letters row run)
 
 -- ---- the screen
 
--- of a run its text, or its background
+-- the text of a run, or its background
 abbrev pub svg_part : Bool → ℕ → Run → List Token
 svg_part true row run = svg_text_of row run
 svg_part false row run = svg_background row run
@@ -82,7 +82,7 @@ svg_runs row runs = flat_map (svg_part false row) runs ++ flat_map (svg_part tru
 unfoldable pub svg_row : ℕ → Row → List Token
 svg_row row columns = svg_runs row (runs_of (visible_cells columns))
 
--- the rows from a number on
+-- rows, of which the first has the index `row`
 abbrev pub svg_rows : ℕ → List Row → List Token
 svg_rows row [] = []
 svg_rows row (columns ∷ rows) = svg_row row columns ++ svg_rows (row + 1) rows
@@ -106,7 +106,7 @@ sized_opening width height view_box =
     ∷ []
     ) ∷ []
 
--- a picture of which all is seen
+-- the tag of a picture whose view box is the whole picture
 unfoldable pub svg_opening : Text → Text → List Token
 svg_opening width height = sized_opening width height (codes "0 0 " ++ (width ++ 32 ∷ height))
 

@@ -17,7 +17,7 @@ use cell_surface::Surface;
 use std::alloc::{AllocError, Global};
 use text_clusters::are_printable;
 
-// The parameters of how a text looks, less its colours.
+// The SGR parameters of the attributes without the colours.
 #[tactic(auto, unfolding(crate::specs::Ansi::rendition_codes))]
 fn rendition_codes(alloc: Global, attrs: &CellAttributes) -> Result<String, AllocError>
     ensures { IfOk result (λ codes. string_bytes codes ≡ rendition_codes attrs.now) }
@@ -37,7 +37,7 @@ fn rendition_codes(alloc: Global, attrs: &CellAttributes) -> Result<String, Allo
     Ok(text)
 }
 
-// The parameters of a layer's colour, if one was set.
+// The SGR parameters of the colour of `layer` (38 foreground, 48 background), if one was set.
 #[tactic(auto, unfolding(crate::specs::Ansi::color_code))]
 fn color_code(alloc: Global, layer: &str, color: ColorAttribute) -> Result<String, AllocError>
     ensures { IfOk result (λ code. string_bytes code ≡ color_code layer.now color) }
@@ -57,7 +57,7 @@ fn color_code(alloc: Global, layer: &str, color: ColorAttribute) -> Result<Strin
     }
 }
 
-// The parameters of the underline's colour, if one was set.
+// The SGR parameters of the underline colour, if one was set.
 #[tactic(auto, unfolding(crate::specs::Ansi::underline_color_code))]
 fn underline_color_code(alloc: Global, color: ColorAttribute) -> Result<String, AllocError>
     ensures { IfOk result (λ code. string_bytes code ≡ underline_color_code color) }
@@ -77,7 +77,7 @@ fn underline_color_code(alloc: Global, color: ColorAttribute) -> Result<String, 
     }
 }
 
-// The parameters of the colours.
+// The SGR parameters of the foreground, the background and the underline colour.
 #[tactic(auto, unfolding(crate::specs::Ansi::color_codes))]
 fn color_codes(alloc: Global, attrs: &CellAttributes) -> Result<String, AllocError>
     ensures { IfOk result (λ codes. string_bytes codes ≡ color_codes attrs.now) }
@@ -89,7 +89,7 @@ fn color_codes(alloc: Global, attrs: &CellAttributes) -> Result<String, AllocErr
     Ok(text)
 }
 
-// The URI, if it holds nothing but printable ASCII.
+// The URI, if it holds only printable ASCII; else the empty one.
 fn printable_uri(uri: &str) -> &str
     ensures { result.now ≡ printable_uri uri.now }
 {
@@ -100,7 +100,7 @@ fn printable_uri(uri: &str) -> &str
     }
 }
 
-// Writes a text, in a link where there is one.
+// Writes a text, in a link (OSC 8) where the URI isn't empty.
 #[tactic(auto, unfolding(crate::specs::Ansi::linked_text))]
 fn push_text(out: &mut String, uri: &str, text: &str) -> Result<(), AllocError>
     ensures { OnOk result (string_bytes out.new ≡ string_bytes out.old ++ linked_text uri.now text.now) }
@@ -113,7 +113,7 @@ fn push_text(out: &mut String, uri: &str, text: &str) -> Result<(), AllocError>
     Ok(())
 }
 
-// Writes a run: its attributes after plain ones, and its text.
+// Writes a run: SGR with a reset and its attributes, and its text.
 #[tactic(auto, unfolding(crate::specs::Ansi::ansi_run))]
 fn push_run(alloc: Global, out: &mut String, run: &Run<'_>) -> Result<(), AllocError>
     ensures { OnOk result (string_bytes out.new ≡ string_bytes out.old ++ ansi_run run.now) }
@@ -125,7 +125,7 @@ fn push_run(alloc: Global, out: &mut String, run: &Run<'_>) -> Result<(), AllocE
     Ok(())
 }
 
-// Writes the runs of a line, and plain attributes and a line feed.
+// Writes the runs of a line, SGR 0 and a line feed.
 #[tactic(auto, unfolding(crate::specs::Ansi::ansi_row))]
 fn push_row(alloc: Global, out: &mut String, line: &Line) -> Result<(), AllocError>
     ensures { OnOk result (string_bytes out.new ≡ string_bytes out.old ++ ansi_row line.now.columns) }
@@ -149,9 +149,9 @@ fn push_rows(alloc: Global, out: &mut String, lines: &[Line]) -> Result<(), Allo
     Ok(())
 }
 
-/// Writes the rows of a screen as a text that a terminal shows: each run with SGR (ECMA-48 8.3.117) for its attributes
-/// before it, in a link (OSC 8) where it has one of the scheme http, https, mailto or file that is printable ASCII; and
-/// after each row plain attributes and a line feed.
+/// Writes the rows of a screen as a text that a terminal shows: each run after SGR (ECMA-48 8.3.117) for its
+/// attributes, and in a link (OSC 8) where it has one whose scheme is http, https, mailto or file and whose URI is
+/// printable ASCII; after each row SGR 0 and a line feed.
 ///
 /// Of a surface that has failed the contract says only that its cells are written.
 pub fn write_ansi<W: Widths + Drop>(

@@ -31,10 +31,10 @@ const SYSTEM: [Rgb; 16] = [
     (255, 255, 255),
 ];
 
-/// The colour shown for the default colour of a text.
+/// The colour shown for the default foreground.
 pub const DEFAULT_FOREGROUND: Rgb = (229, 229, 229);
 
-/// The colour shown for the default background of a text.
+/// The colour shown for the default background.
 pub const DEFAULT_BACKGROUND: Rgb = (0, 0, 0);
 
 // One of the six levels of the colour cube.
@@ -95,7 +95,7 @@ fn midway(one: Rgb, other: Rgb) -> Rgb
     )
 }
 
-// The colour of a text, were it neither hidden nor half as bright.
+// The foreground colour, which reverse video swaps with the background colour; intensity and `invisible` are left out.
 fn foreground_color(attrs: &CellAttributes) -> Rgb
     ensures { result ≡ foreground_color attrs.now }
 {
@@ -106,7 +106,7 @@ fn foreground_color(attrs: &CellAttributes) -> Rgb
     }
 }
 
-/// The colour of the background; reverse video swaps it with that of the text.
+/// The background colour; reverse video swaps it with the foreground colour.
 pub fn background_color(attrs: &CellAttributes) -> Rgb
     ensures { result ≡ background_color attrs.now }
 {
@@ -117,7 +117,8 @@ pub fn background_color(attrs: &CellAttributes) -> Rgb
     }
 }
 
-/// The colour of a text: that of the background where it is hidden, and midway to that at half intensity.
+/// The colour in which a text is drawn: the foreground colour; midway to the background colour at half intensity; and
+/// the background colour where the text is invisible.
 pub fn text_color(attrs: &CellAttributes) -> Rgb
     ensures { result ≡ text_color attrs.now }
 {
@@ -130,7 +131,7 @@ pub fn text_color(attrs: &CellAttributes) -> Rgb
     foreground_color(attrs)
 }
 
-// Whether a background is seen: one is set, or reverse video swaps both colours.
+// Whether a background is drawn: one is set, or reverse video swaps both colours.
 pub(crate) fn has_background(attrs: &CellAttributes) -> bool
     ensures { result ≡ has_background attrs.now }
 {

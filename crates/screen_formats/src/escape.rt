@@ -10,9 +10,9 @@ use std::alloc::AllocError;
 /// What a text is escaped for.
 #[derive(Debug, Clone, Copy, PartialEq, Eq)]
 pub enum Markup {
-    /// HTML, which can hold every character but NUL.
+    /// HTML, which can hold every character except NUL.
     Html,
-    /// XML 1.0, which can hold no C0 control but HT, LF and CR, and neither U+FFFE nor U+FFFF.
+    /// XML 1.0, which can hold no C0 control except HT, LF and CR, and neither U+FFFE nor U+FFFF.
     Xml,
 }
 
@@ -33,7 +33,7 @@ fn held(markup: Markup, c: char) -> char
     if can_hold(markup, c) { c } else { '\u{FFFD}' }
 }
 
-// The entity that is written for a character.
+// The character reference that is written for a character, if one is.
 fn entity(c: char) -> Option<&'static str>
     ensures { option_map (λ e. e.now) result ≡ entity_of c }
 {
@@ -48,7 +48,7 @@ fn entity(c: char) -> Option<&'static str>
     }
 }
 
-// Writes a character that the format can hold.
+// Writes a character that the markup can hold, by a character reference if it has one.
 fn push_char(out: &mut String, c: char) -> Result<(), AllocError>
     ensures { OnOk result (string_bytes out.new ≡ string_bytes out.old ++ escaped_char c) }
 {
@@ -59,8 +59,8 @@ fn push_char(out: &mut String, c: char) -> Result<(), AllocError>
     Ok(())
 }
 
-/// Writes a text as a markup holds it between tags, and in quotes as the value of an attribute: `&`, `<`, `>`, `"`, `'`
-/// and CR as entities, U+FFFD in place of a character that the markup can't hold, and any other as it is.
+/// Writes a text escaped for a place between tags, and for a quoted value of an attribute: `&`, `<`, `>`, `"`, `'` and
+/// CR as character references, U+FFFD in place of a character that the markup can't hold, and any other as it is.
 pub fn push_escaped(out: &mut String, text: &str, markup: Markup) -> Result<(), AllocError>
     ensures { OnOk result (string_bytes out.new ≡ string_bytes out.old ++ escaped markup text.now) }
 {

@@ -21,7 +21,7 @@ use cell_surface::Surface;
 use std::alloc::{AllocError, Global};
 use text_clusters::are_printable;
 
-// The declaration of the background's colour, if one is seen.
+// The declaration of the background colour, if a background is drawn.
 fn background_style(alloc: Global, attrs: &CellAttributes) -> Result<String, AllocError>
     ensures { IfOk result (λ style. string_bytes style ≡ background_style attrs.now) }
 {
@@ -32,14 +32,14 @@ fn background_style(alloc: Global, attrs: &CellAttributes) -> Result<String, All
     Ok(style)
 }
 
-// Whether a font may give the cells of a run other widths than as many digits have.
+// Whether a font may draw the cells of a run wider or narrower than their columns of digits.
 fn is_uneven(run: &Run<'_>) -> bool
     ensures { result ≡ is_uneven run.now }
 {
     run.width == 2 || !are_printable(run.text.as_bytes())
 }
 
-// The declaration of the columns that cells take, if they are set.
+// The declaration of the width of some columns, if it is set.
 fn width_style(alloc: Global, is_set: bool, columns: usize) -> Result<String, AllocError>
     ensures { IfOk result (λ style. string_bytes style ≡ width_style is_set columns) }
 {
@@ -50,7 +50,7 @@ fn width_style(alloc: Global, is_set: bool, columns: usize) -> Result<String, Al
     Ok(style)
 }
 
-// The declaration of the colour of a text.
+// The declaration of the colour in which a text is drawn.
 fn text_style(alloc: Global, attrs: &CellAttributes) -> Result<String, AllocError>
     ensures { IfOk result (λ style. string_bytes style ≡ text_style attrs.now) }
 {
@@ -58,7 +58,7 @@ fn text_style(alloc: Global, attrs: &CellAttributes) -> Result<String, AllocErro
     Ok(style)
 }
 
-// How cells that take some columns look, as declarations of CSS.
+// The style of cells that take some columns, as declarations of CSS.
 #[tactic(auto, unfolding(crate::specs::Html::html_style))]
 fn html_style(
     alloc: Global,
@@ -76,7 +76,7 @@ fn html_style(
     Ok(style)
 }
 
-// The name of a run's element: that of a link where there is one.
+// The name of a run's element: `a` where it has a link.
 fn html_name(uri: &str) -> &'static str
     ensures { result.now ≡ html_name uri.now }
 {
@@ -153,10 +153,9 @@ fn screen_style(alloc: Global) -> Result<String, AllocError>
 }
 
 /// Writes a screen as HTML: an element `pre` of class `screen`, in which each row has a line feed after it. A run is a
-/// `span`, or an `a` where it has a link of the scheme http, https, mailto or file. Its class tells how it looks, in
-/// the
-/// words of `rendition_words`, and its style is complete except for texts that blink or are raised or lowered. Cells
-/// that a font may give other widths take their columns.
+/// `span`, or an `a` where it has a link of the scheme http, https, mailto or file. Its class has the words of
+/// `rendition_words`, and its style draws all attributes except blinking, superscript and subscript. Cells that a font
+/// may draw wider or narrower get the width of their columns.
 ///
 /// Of a surface that has failed the contract says only that its cells are written.
 pub fn write_html<W: Widths + Drop>(

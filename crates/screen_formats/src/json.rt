@@ -19,7 +19,7 @@ use cell_surface::Surface;
 use serde_json::{Map, Value, json, put};
 use std::alloc::{AllocError, Global};
 
-// A colour: nothing where none was set, the number of one of the palette, and `#rrggbb` for any other.
+// A colour: empty for the default colour, the index of a palette colour, and `#rrggbb` for any other.
 #[tactic(auto, unfolding(crate::specs::Json::color_text))]
 fn color_text(alloc: Global, color: ColorAttribute) -> Result<String, AllocError>
     ensures { IfOk result (λ text. string_bytes text ≡ color_text color) }
@@ -82,7 +82,7 @@ fn attributes_value(alloc: Global, attrs: &CellAttributes) -> Result<Value, Allo
     Ok(value)
 }
 
-// A run.
+// A run as a JSON value.
 #[tactic(auto, unfolding(crate::specs::Json::run_data))]
 fn run_value(alloc: Global, run: &Run<'_>) -> Result<Value, AllocError>
     ensures { IfOk result (λ value. view value ≡ run_data run.now) }
@@ -164,7 +164,7 @@ fn put_title(map: &mut Map<String, Value>, alloc: Global, title: &str) -> Result
     Ok(())
 }
 
-// A screen.
+// A screen as a JSON value.
 #[tactic(auto, unfolding(crate::specs::Json::screen_object))]
 fn screen_value<W: Widths + Drop>(alloc: Global, surface: &Surface<W>) -> Result<Value, AllocError>
     ensures { IfOk result (λ value. view value ≡ screen_data (shown_by surface.now).screen) }
@@ -195,13 +195,13 @@ fn screen_value<W: Widths + Drop>(alloc: Global, surface: &Surface<W>) -> Result
 /// - `width` and `height`, columns and rows; `title`;
 /// - `cursor`: `column` and `row`, counted from 0, and whether it is `visible`; the column is the width while a wrap is
 ///   pending;
-/// - `rows`, each a list of runs: `text`, the texts of its cells, joined; `column`, the first of the first cell,
-/// counted
-///   from 0; `columns`, how many all take, and `width`, how many each takes; and `attributes`;
-/// - of attributes `colors`, the `foreground`, the `background` and that of the `underline`: empty where none was set,
-///   the number of one of the palette, `#rrggbb` of any other; `looks`, in the words of `rendition_words`; `link`, a
-///   URI of the scheme http, https, mailto or file, or else empty; `wrapped`, whether the line goes on in the next row
-///   after the cell; and `semantic_type`: `output`, `input` or `prompt`.
+/// - `rows`, each a list of runs: `text`, the texts of its cells, joined; `column`, the first column of the first cell,
+///   counted from 0; `columns`, how many columns all its cells take, and `width`, how many each cell takes; and
+///   `attributes`;
+/// - `attributes` has `colors`: `foreground`, `background` and `underline`, each empty for the default colour, the
+///   index of a palette colour, or `#rrggbb` for any other; `looks`, the words of `rendition_words`; `link`, a URI of
+///   the scheme http, https, mailto or file, or else empty; `wrapped`, whether the line goes on in the next row after
+///   the cell; and `semantic_type`: `output`, `input` or `prompt`.
 ///
 /// Of a surface that has failed the contract says only that its cells are written.
 pub fn write_json<W: Widths + Drop>(

@@ -13,8 +13,9 @@ ghost use Rattle.screen_formats.specs.Svg.{svg_text};
 
 use crate::escape::Markup;
 
-/// An escaped text reads back as the text with U+FFFD in place of what the markup can't hold. So no tag begins or ends
-/// in it, it ends no value in quotes, and each `&` in it begins one of the entities that are written.
+/// An escaped text reads back as the text with U+FFFD in place of each character that the markup can't hold. So no tag
+/// begins or ends in it, it ends no value in quotes, and each `&` in it begins one of the character references that
+/// are written.
 #[tactic(auto, using(crate::proofs::EscapeLemmas::escaped_back))]
 pub fn escaped_texts_read_back(markup: Markup, text: &str)
     ensures { unescaped (escaped markup text.now) ≡ Some (held_text markup text.now) }
@@ -22,8 +23,8 @@ pub fn escaped_texts_read_back(markup: Markup, text: &str)
     let _text = text;
 }
 
-/// What a reader who passes over the tags sees of tokens are their texts, one after the other, whatever the texts and
-/// the values of attributes hold.
+/// The text content of tokens (without the tags) is their texts, one after the other, whatever the texts and the values
+/// of attributes hold.
 #[tactic(auto, using(crate::proofs::ContentLemmas::content_back))]
 pub fn tokens_hold_their_texts(markup: Markup)
     ensures { (tokens : List Token) → AreTagged tokens
@@ -32,16 +33,15 @@ pub fn tokens_hold_their_texts(markup: Markup)
     let _markup = markup;
 }
 
-/// What a reader who passes over the tags sees of a screen in HTML are the texts of its visible cells, in order, each
-/// row
-/// with a line feed after it.
+/// The text content of a screen as HTML (without the tags) is the texts of its visible cells, in order, with a line
+/// feed after each row, and one after the screen.
 #[tactic(auto, using(crate::proofs::ScreenContent::html_read))]
 pub fn html_holds_the_cells()
     ensures { (screen : Screen) → content (html_text screen) ≡ Some (html_content screen) }
 {}
 
-/// What a reader who passes over the tags sees of a screen in SVG are its title and the texts of its visible cells, in
-/// order.
+/// The text content of a screen as SVG (without the tags) is its title and the texts of its visible cells, in order,
+/// and a line feed.
 #[tactic(auto, using(crate::proofs::ScreenContent::svg_read))]
 pub fn svg_holds_the_cells()
     ensures { (screen : Screen) → content (svg_text screen) ≡ Some (svg_content screen) }

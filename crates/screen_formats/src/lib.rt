@@ -1,4 +1,4 @@
-//! A screen in the formats of files: as plain rows, with the sequences of a terminal, as HTML, SVG and JSON.
+//! A screen in the formats of files: as plain rows, as rows with control sequences, as HTML, SVG and JSON.
 //!
 //! - `ansi`: a screen as rows for a terminal.
 //! - `colors`: the colours of cells: those of xterm's palette of 256, direct ones, and those shown for the

@@ -11,15 +11,15 @@ use crate::colors::{Rgb, color_of, text_color};
 use cell_base::{Blink, CellAttributes, ColorAttribute, Intensity, Underline, VerticalAlign};
 use std::alloc::{AllocError, Global};
 
-// The text where something holds, or else the empty one.
+// The text where `holds` is true, and else the empty one.
 pub(crate) fn text_if(holds: bool, text: &str) -> &str
     ensures { result.now ≡ text_if holds text.now }
 {
     if holds { text } else { "" }
 }
 
-/// A style: its word, with a space after it; its parameter of SGR, after a `;`; and its declaration of CSS. Each is
-/// empty where there is none.
+/// A rendition: its word, with a space after it; its parameter of SGR (ECMA-48 8.3.117), after a `;`; and its
+/// declaration of CSS. Each is empty where there is none.
 #[derive(Clone, Copy)]
 pub(crate) struct Rendition {
     pub(crate) word: &'static str,
@@ -35,7 +35,7 @@ fn rendition_of(word: &'static str, code: &'static str, style: &'static str) -> 
     Rendition { word, code, style }
 }
 
-// How bright a text is.
+// The rendition of an intensity.
 pub(crate) fn intensity_rendition(intensity: Intensity) -> Rendition
     ensures word { result.word.now ≡ (intensity_rendition intensity).word }
     ensures code { result.code.now ≡ (intensity_rendition intensity).code }
@@ -48,7 +48,7 @@ pub(crate) fn intensity_rendition(intensity: Intensity) -> Rendition
     }
 }
 
-// The line under a text.
+// The rendition of an underline.
 pub(crate) fn underline_rendition(underline: Underline) -> Rendition
     ensures word { result.word.now ≡ (underline_rendition underline).word }
     ensures code { result.code.now ≡ (underline_rendition underline).code }
@@ -76,7 +76,7 @@ pub(crate) fn underline_rendition(underline: Underline) -> Rendition
     }
 }
 
-// Whether a text blinks.
+// The rendition of blinking.
 pub(crate) fn blink_rendition(blink: Blink) -> Rendition
     ensures word { result.word.now ≡ (blink_rendition blink).word }
     ensures code { result.code.now ≡ (blink_rendition blink).code }
@@ -89,7 +89,7 @@ pub(crate) fn blink_rendition(blink: Blink) -> Rendition
     }
 }
 
-// Whether a text is raised or lowered.
+// The rendition of superscripts and subscripts.
 pub(crate) fn align_rendition(align: VerticalAlign) -> Rendition
     ensures word { result.word.now ≡ (align_rendition align).word }
     ensures code { result.code.now ≡ (align_rendition align).code }
@@ -123,7 +123,7 @@ pub fn rendition_words(alloc: Global, attrs: &CellAttributes) -> Result<String, 
     Ok(text)
 }
 
-// The lines under, above and through a text.
+// The value of `text-decoration`: the lines under, above and through a text.
 fn lines_style(alloc: Global, attrs: &CellAttributes) -> Result<String, AllocError>
     ensures { IfOk result (λ lines. string_bytes lines ≡ lines_style attrs.now) }
 {
@@ -134,7 +134,7 @@ fn lines_style(alloc: Global, attrs: &CellAttributes) -> Result<String, AllocErr
     Ok(text)
 }
 
-// The declaration of these lines, if there are any.
+// The declaration of `text-decoration`, if there are any lines.
 fn lines_declared(alloc: Global, lines: &str) -> Result<String, AllocError>
     ensures { IfOk result (λ style. string_bytes style ≡ lines_declared lines.now) }
 {
@@ -155,7 +155,7 @@ pub(crate) fn color_style(alloc: Global, name: &str, color: Rgb) -> Result<Strin
     Ok(text)
 }
 
-// The declaration of the underline's colour, if one was set.
+// The declaration of the underline colour, if one was set.
 fn underline_color_style(alloc: Global, attrs: &CellAttributes) -> Result<String, AllocError>
     ensures { IfOk result (λ style. string_bytes style ≡ underline_color_style attrs.now) }
 {
@@ -171,7 +171,7 @@ fn underline_color_style(alloc: Global, attrs: &CellAttributes) -> Result<String
     Ok(style)
 }
 
-/// How a text looks, less its colours, as declarations of CSS.
+/// The renditions of attributes as declarations of CSS, without the foreground and the background.
 pub(crate) fn rendition_style(alloc: Global, attrs: &CellAttributes) -> Result<String, AllocError>
     ensures { IfOk result (λ style. string_bytes style ≡ rendition_style attrs.now) }
 {

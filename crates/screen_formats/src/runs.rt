@@ -49,14 +49,14 @@ impl<'a> Run<'a> {
         })
     }
 
-    // Whether the cell looks as those of the run.
+    // Whether the cell has the attributes and the width of the run's cells.
     fn goes_on(&self, cell: &CellRef<'_>) -> bool
         ensures { result ≡ goes_on self.now (shown_by cell.now) }
     {
         *self.attrs == *cell.attrs() && self.width == cell.width()
     }
 
-    // The cell goes after those of the run.
+    // Appends the cell to the run.
     fn grow(&mut self, cell: &CellRef<'_>) -> Result<(), AllocError>
         ensures { OnOk result (self.new ≡ grown self.old (shown_by cell.now)) }
     {
@@ -67,7 +67,7 @@ impl<'a> Run<'a> {
     }
 }
 
-// The cell joins a run, or begins one after it.
+// Appends the last run with the cell in it, or the last run and a new one that begins with the cell.
 fn push_after<'a>(
     alloc: Global,
     runs: &mut Vec<Run<'a>>,
@@ -102,7 +102,7 @@ fn push_cell<'a>(
     Ok(())
 }
 
-/// The runs of a line, each as long as may be, in order. Memory in proportion to the line.
+/// The runs of a line, each as long as possible, in order. Takes memory in proportion to the line.
 pub fn line_runs(alloc: Global, line: &Line) -> Result<Vec<Run<'_>>, AllocError>
     ensures { IfOk result (λ runs. runs.items ≡ runs_of (visible_cells line.now.columns)) }
 {

@@ -49,7 +49,7 @@ fn base_line(alloc: Global, row: usize) -> Result<String, AllocError>
     Ok(text)
 }
 
-// How a text looks, as declarations of CSS.
+// The style of a text, as declarations of CSS.
 #[tactic(auto, unfolding(crate::specs::Svg::svg_style))]
 fn svg_style(alloc: Global, attrs: &CellAttributes) -> Result<String, AllocError>
     ensures { IfOk result (λ style. string_bytes style ≡ svg_style attrs.now) }
@@ -91,7 +91,7 @@ fn push_rectangle<'a>(
     Ok(())
 }
 
-// Writes a text that is as long as its columns.
+// Writes the element of a text that is as long as its columns and keeps all its spaces.
 #[tactic(auto, unfolding(crate::specs::Svg::placed_text))]
 fn push_placed_text<'a>(
     out: &mut String,
@@ -162,7 +162,7 @@ fn push_letters(
     Ok(())
 }
 
-// Writes the text of a run, in a link where there is one.
+// Writes the text of a run, in a link where it has one.
 #[tactic(auto, unfolding(crate::specs::Svg::svg_text_of))]
 fn push_text(alloc: Global, out: &mut String, row: usize, run: &Run<'_>) -> Result<(), AllocError>
     ensures { OnOk result (string_bytes out.new ≡ string_bytes out.old ++ tokens_text Xml (svg_text_of row run.now)) }
@@ -260,7 +260,7 @@ fn push_cursor<W: Widths + Drop>(
     Ok(())
 }
 
-// Writes the tag of the picture of a size and a view.
+// Writes the tag of a picture with a size and a view box.
 #[tactic(auto, unfolding(crate::specs::Svg::sized_opening))]
 fn push_sized_opening<'a>(
     out: &mut String,
@@ -288,7 +288,7 @@ fn push_sized_opening<'a>(
     Ok(())
 }
 
-// Writes the tag of the picture.
+// Writes the tag of a picture whose view box is the whole picture.
 #[tactic(auto, unfolding(crate::specs::Svg::svg_opening))]
 fn push_svg_opening<'a>(
     alloc: Global,
@@ -304,7 +304,7 @@ fn push_svg_opening<'a>(
     Ok(())
 }
 
-// Writes what comes before the rows: the picture's tag, the title, and the rectangle behind all rows.
+// Writes the head, before the rows: the picture's tag, the title, and the rectangle behind all rows.
 fn push_head<'a>(
     alloc: Global,
     out: &mut String,
@@ -322,7 +322,7 @@ fn push_head<'a>(
     Ok(())
 }
 
-// Writes what follows the rows.
+// Writes the end, after the rows: the closing tag and a line feed.
 fn push_end(out: &mut String) -> Result<(), AllocError>
     ensures { OnOk result
         (string_bytes out.new ≡ string_bytes out.old
@@ -333,12 +333,11 @@ fn push_end(out: &mut String) -> Result<(), AllocError>
     Ok(())
 }
 
-/// Writes a screen as SVG: columns of 10 units and rows of 20, with the title, a rectangle behind each run of which a
-/// background is seen, the text of each run, as long as its columns, in a link where it has one of the scheme http,
-/// https, mailto or file, and a rectangle for the cursor, if it is shown. Wide cells take two columns each. The class
-/// of
-/// a text tells how it looks, in the words of `rendition_words`, and its style is complete except for texts that blink
-/// or are raised or lowered.
+/// Writes a screen as SVG: columns of 10 units and rows of 20, with the title, a rectangle behind each run that has a
+/// background, the text of each run, as long as its columns, in a link where it has one of the scheme http, https,
+/// mailto or file, and a rectangle for the cursor, if it is shown. Wide cells take two columns each. The class of a
+/// text has the words of `rendition_words`, and its style draws all attributes except blinking, superscript and
+/// subscript.
 ///
 /// Of a surface that has failed the contract says only that its cells are written.
 pub fn write_svg<W: Widths + Drop>(

@@ -27,7 +27,7 @@ fn push_attribute(
     Ok(())
 }
 
-// Writes attributes with values.
+// Writes the attributes whose values aren't empty.
 fn push_attributes(
     out: &mut String,
     markup: Markup,
@@ -43,7 +43,7 @@ fn push_attributes(
     Ok(())
 }
 
-/// Writes the tag that opens an element, with the attributes that have values.
+/// Writes the tag that opens an element, with the attributes whose values aren't empty.
 #[tactic(auto, unfolding(crate::specs::Tokens::tokens_text))]
 pub fn push_opening(
     out: &mut String,

@@ -55,7 +55,7 @@ pub record Shows {W : Type 0} (before after : Grid W) (display : Display) : Type
   pub widths : after.widths ≡ before.widths
   pub drawn : IsDrawn after
 
--- a line by its number from 0
+-- the line of a row, counted from 0
 abbrev pub line_at : List LineContent → ℕ → LineContent
 line_at lines row = slice_index_or lines row (line_of 0 [])
 
@@ -64,12 +64,12 @@ abbrev pub line_with : {W : Type 0} → Grid W → Row → LineContent
 line_with c columns =
     record (line_at c.lines c.row) { columns = set_columns (line_at c.lines c.row).columns c.column columns }
 
--- the grid with these columns from the cursor on, which goes after them
+-- the grid with these columns from the cursor on, and with the cursor after them
 abbrev pub grid_with : {W : Type 0} → Grid W → Row → ℕ → Grid W
 grid_with c columns count =
     record c { lines = slice_set c.lines c.row (line_with c columns); column = c.column + count }
 
--- each cluster that has these columns was put
+-- `after` is `before` after a cluster is put, for each cluster that has these columns
 abbrev pub Puts : {W : Type 0} → (List ℕ → ℕ) → Grid W → Grid W → Row → Type 0
 Puts width_of before after columns =
     (cluster : List ℕ) → cluster_columns width_of (display_of before).screen cluster ≡ columns

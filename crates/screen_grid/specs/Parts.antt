@@ -6,7 +6,7 @@ use Rattle.screen_effects.specs.Display.{Display}
 use Rattle.screen_effects.specs.Strokes.{TextPart, part_strokes, stroke_done, text_parts}
 use Rattle.screen_effects.specs.Parts.{IsAtControl}
 
--- the parts in turn
+-- the display after each of the parts in turn
 abbrev pub parts_done : (List ℕ → ℕ) → Display → List TextPart → Display
 parts_done width_of display parts = fold (stroke_done width_of) display (flat_map part_strokes parts)
 

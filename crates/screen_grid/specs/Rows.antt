@@ -14,14 +14,14 @@ blanked attributes l = record l { columns = replicate (length l.columns) (blank 
 abbrev pub cleared : LineContent → LineContent
 cleared l = record l { bits = SingleWidthLine; columns = plain_row (length l.columns) }
 
--- lines move to the start by `count`, and the first ones come again at the end, cleared
+-- lines move to the start by `count`, and the first ones reappear at the end, cleared
 abbrev pub rows_up : ℕ → List LineContent → List LineContent
 rows_up count lines = drop count lines ++ map cleared (take count lines)
 
--- lines move to the end by `count`, and the last ones come again at the start, cleared
+-- lines move to the end by `count`, and the last ones reappear at the start, cleared
 abbrev pub rows_down : ℕ → List LineContent → List LineContent
 rows_down count lines = map cleared (drop (length lines - count) lines) ++ take (length lines - count) lines
 
--- a line with `width` columns, and no number given
+-- a line resized to `width` columns; the number of the change is 0
 abbrev pub widened : ℕ → LineContent → LineContent
 widened width l = resize l width 0

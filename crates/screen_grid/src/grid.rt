@@ -36,8 +36,8 @@ use screen_effects::{split_at_control, split_control};
 use std::alloc::{AllocError, Global};
 use std::marker::Model;
 
-/// Lines with a cursor, a pen and a title. Columns and rows count from 0; at the column of the width
-/// a wrap is pending.
+/// Lines with a cursor, a pen and a title. Columns and rows count from 0; while a wrap is pending, the
+/// cursor's column is the width.
 #[derive(Drop)]
 pub struct Grid<W> {
     alloc: Global,
@@ -324,7 +324,7 @@ impl<W: Widths + Drop> Grid<W> {
         Ok(())
     }
 
-    // One attribute of the pen becomes another.
+    // Sets one attribute of the pen.
     fn set_attribute(&mut self, change: &AttributeChange) -> Result<(), AllocError>
         requires { IsDrawn self.old }
         ensures { OnOk result
@@ -336,7 +336,7 @@ impl<W: Widths + Drop> Grid<W> {
         Ok(())
     }
 
-    // The pen becomes another.
+    // Sets all attributes of the pen.
     fn set_pen(&mut self, pen: &CellAttributes) -> Result<(), AllocError>
         requires { IsDrawn self.old }
         ensures { OnOk result
@@ -347,7 +347,7 @@ impl<W: Widths + Drop> Grid<W> {
         Ok(())
     }
 
-    // All columns become blanks of a colour, and the cursor goes home.
+    // Makes all columns blanks of a colour, and moves the cursor home.
     fn clear_screen(&mut self, color: ColorAttribute) -> Result<(), AllocError>
         requires { IsDrawn self.old }
         ensures { OnOk result
@@ -361,7 +361,7 @@ impl<W: Widths + Drop> Grid<W> {
         Ok(())
     }
 
-    // The columns from the cursor on become blanks of a colour.
+    // Makes the columns of the cursor's row from the cursor on blanks of a colour.
     fn clear_to_end_of_line(&mut self, color: ColorAttribute) -> Result<(), AllocError>
         requires { IsDrawn self.old }
         ensures { OnOk result
@@ -374,7 +374,7 @@ impl<W: Widths + Drop> Grid<W> {
         Ok(())
     }
 
-    // The columns from the cursor on, and all rows below, become blanks of a colour.
+    // Makes the columns of the cursor's row from the cursor on, and all rows below, blanks of a colour.
     fn clear_to_end_of_screen(&mut self, color: ColorAttribute) -> Result<(), AllocError>
         requires { IsDrawn self.old }
         ensures { OnOk result
@@ -398,7 +398,7 @@ impl<W: Widths + Drop> Grid<W> {
         self.row = resolved(self.rows.len(), self.row, y);
     }
 
-    // The cursor's row has another size.
+    // Sets the size of the cursor's row.
     fn set_line_attribute(&mut self, size: LineAttribute)
         requires { IsDrawn self.old }
         ensures { Shows self.old self.new (effect (W.width_of self.old.widths) (display_of self.old) (LineSize size)) }
@@ -407,7 +407,7 @@ impl<W: Widths + Drop> Grid<W> {
         set_size(&mut self.rows, row, size);
     }
 
-    // Rows of a region move up, and plain ones come below.
+    // Moves the rows of a region up, and adds plain rows below.
     fn scroll_region_up(
         &mut self,
         first: usize,
@@ -426,7 +426,7 @@ impl<W: Widths + Drop> Grid<W> {
         Ok(())
     }
 
-    // Rows of a region move down, and plain ones come above.
+    // Moves the rows of a region down, and adds plain rows above.
     fn scroll_region_down(
         &mut self,
         first: usize,
@@ -501,7 +501,7 @@ impl<W: Widths + Copy + Drop> Grid<W> {
     }
 }
 
-/// Plain attributes with a background.
+/// Plain attributes with a background colour.
 pub fn blank_of(color: ColorAttribute) -> CellAttributes
     ensures { result ≡ blank_of color }
 {

@@ -4,7 +4,7 @@ ghost use Rattle.screen_effects.specs.Positions.{resolved_column, resolved};
 
 use cell_base::Position;
 
-// Of `size` positions the one named, going from the current one: at most the last.
+// The position that is named among `size` positions, where `from` is the current one; at most the last.
 pub(crate) fn resolved(size: usize, from: usize, position: Position) -> usize
     requires some { 0 < size }
     requires within { from ≤ size }
@@ -19,7 +19,7 @@ pub(crate) fn resolved(size: usize, from: usize, position: Position) -> usize
     }
 }
 
-// A column; the width itself is the one where a wrap is pending.
+// The column that is named: as `resolved`, except that the width itself is a column, at which a wrap is pending.
 pub(crate) fn resolved_column(width: usize, from: usize, position: Position) -> usize
     requires some { 0 < width }
     requires within { from ≤ width }

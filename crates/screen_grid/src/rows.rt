@@ -18,12 +18,12 @@ use std::alloc::{AllocError, Global};
 // The most pooled lines.
 const MOST_POOLED: usize = 256;
 
-// How many lines are pooled beside `height` rows. The rows are moved once for each that many lines that scroll away.
+// How many lines are pooled for `height` rows. Each time as many lines have scrolled away, the rows are moved once.
 fn pooled_for(height: usize) -> usize {
     height.min(MOST_POOLED / 2) * 2
 }
 
-// Adds pooled lines up to the number that belongs beside the rows.
+// Adds pooled lines up to the number for these rows (`pooled_for`).
 fn add_room(alloc: Global, rows: &mut Ring<Line>) -> Result<(), AllocError>
     ensures { OnOk result (rows.new ≡ rows.old) }
 {
@@ -71,7 +71,7 @@ pub(crate) fn blank_lines(
     Ok(rows)
 }
 
-// A line becomes one of plain blanks at normal size.
+// Makes a line one of plain blanks at normal size.
 fn clear_line(line: &mut Line) -> Result<(), AllocError>
     ensures { OnOk result (line.new ≡ cleared line.old) }
 {
@@ -146,7 +146,7 @@ pub(crate) fn set_cell(
     Ok(())
 }
 
-// The columns of a row from one on become blanks with these attributes.
+// Makes the columns of a row from `at` on blanks with these attributes.
 pub(crate) fn set_blanks(
     rows: &mut Ring<Line>,
     row: usize,
@@ -167,7 +167,7 @@ pub(crate) fn set_blanks(
     Ok(())
 }
 
-// All columns of the rows from one on become blanks with these attributes.
+// Makes all columns of the rows from `from` on blanks with these attributes.
 pub(crate) fn blank_rows(
     rows: &mut Ring<Line>,
     from: usize,
@@ -182,7 +182,7 @@ pub(crate) fn blank_rows(
     Ok(())
 }
 
-// All columns of the rows below one become blanks.
+// Makes all columns of the rows below `row` blanks with these attributes.
 pub(crate) fn blank_rows_below(
     rows: &mut Ring<Line>,
     row: usize,
@@ -197,7 +197,7 @@ pub(crate) fn blank_rows_below(
     Ok(())
 }
 
-// Rows between two become rows of plain blanks.
+// Makes the rows from `from` on and before `after` rows of plain blanks.
 fn clear_rows(rows: &mut Ring<Line>, from: usize, after: usize) -> Result<(), AllocError>
     requires order { from ≤ after }
     requires within { after ≤ length rows.old }
@@ -211,7 +211,7 @@ fn clear_rows(rows: &mut Ring<Line>, from: usize, after: usize) -> Result<(), Al
     Ok(())
 }
 
-// Moves the items of a region up by `count`; the items that leave it come again below.
+// Moves the items of a region up by `count`; the items that leave it reappear below.
 fn rotate_up<T>(items: &mut [T], first: usize, after: usize, count: usize)
     requires order { first ≤ after }
     requires within { after ≤ length items.old }
@@ -224,7 +224,7 @@ fn rotate_up<T>(items: &mut [T], first: usize, after: usize, count: usize)
     items[first..after].rotate_left(count);
 }
 
-// Moves the items of a region down by `count`; the items that leave it come again above.
+// Moves the items of a region down by `count`; the items that leave it reappear above.
 fn rotate_down<T>(items: &mut [T], first: usize, after: usize, count: usize)
     requires order { first ≤ after }
     requires within { after ≤ length items.old }
@@ -238,7 +238,7 @@ fn rotate_down<T>(items: &mut [T], first: usize, after: usize, count: usize)
     items[first..after].rotate_right(count);
 }
 
-// Rows of a region move up, and rows of plain blanks come below.
+// Moves the rows of a region up, and adds rows of plain blanks below.
 pub(crate) fn scroll_up(
     rows: &mut Ring<Line>,
     first: usize,
@@ -258,7 +258,7 @@ pub(crate) fn scroll_up(
     Ok(())
 }
 
-// Rows of a region move down, and rows of plain blanks come above.
+// Moves the rows of a region down, and adds rows of plain blanks above.
 pub(crate) fn scroll_down(
     rows: &mut Ring<Line>,
     first: usize,
@@ -298,7 +298,7 @@ pub(crate) fn set_size(rows: &mut Ring<Line>, row: usize, size: LineAttribute)
     size_line(&mut rows[row], size);
 }
 
-// Each row becomes so wide.
+// Makes each row `width` columns wide.
 fn resize_rows(rows: &mut Ring<Line>, width: usize) -> Result<(), AllocError>
     ensures { OnOk result (rows.new ≡ map (widened width) rows.old) }
 {
@@ -325,7 +325,7 @@ fn add_rows(
     Ok(())
 }
 
-// Makes the rows `height`, each of `width` columns.
+// Sets the number of rows to `height`, and the columns of each row to `width`.
 pub(crate) fn resize(
     alloc: Global,
     rows: &mut Ring<Line>,

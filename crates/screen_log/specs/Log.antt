@@ -9,7 +9,7 @@ pub record Log : Type 0 where
   pub number : ℕ
   pub entries : List ChangeValue
 
--- nothing yet
+-- the empty log
 abbrev pub new_log : Log
 new_log = record { number = 0; entries = [] }
 
@@ -17,12 +17,11 @@ new_log = record { number = 0; entries = [] }
 abbrev pub first_number : Log → ℕ
 first_number log = log.number - length log.entries
 
--- how many changes of a screen's size are due at most, as far as a number of 64 bits goes; where more are, a repaint is
--- shorter
+-- how many changes are due at most for a screen's size, cut at 2^64 - 1; where more would be, a repaint is shorter
 abbrev pub most_due : ℕ → ℕ → ℕ
 most_due width height = min (3 + (6 * width * height) / 5) (2 ^ 64 - 1)
 
--- one change more
+-- the log with one change more
 abbrev pub logged : ChangeValue → Log → Log
 logged change log = record { number = log.number + 1; entries = log.entries ++ change ∷ [] }
 
@@ -30,7 +29,7 @@ logged change log = record { number = log.number + 1; entries = log.entries ++ c
 abbrev pub kept : ℕ → Log → Log
 kept most log = record log { entries = drop (length log.entries - most) log.entries }
 
--- the entries before a number go; none where the number lies above the log's
+-- drops the entries before a number; none where the number is above the log's
 abbrev pub forgotten : ℕ → Log → Log
 forgotten number log =
     if nat_lt log.number number then log else record log { entries = drop (number - first_number log) log.entries }

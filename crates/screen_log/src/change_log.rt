@@ -15,10 +15,10 @@ use std::alloc::{AllocError, Global};
 use std::marker::Model;
 use std::mem;
 
-/// Numbered changes, of which the last ones that may be due are kept. At most twice as many have a slot, and a change
-/// that isn't kept any more is dropped at once: beside the kept changes a log has at most 64 KB of texts' memory, for
-/// later texts. The log reserves slots for that memory where it logs a text, so that dropping changes asks for no
-/// memory.
+/// Numbered changes, of which the last ones that may be due are kept. At most twice as many slots are in use, and a
+/// change that isn't kept any more is dropped at once: beside the kept changes a log has at most 64 KB of texts'
+/// memory, for later texts. The log reserves slots for that memory where it logs a text, so that dropping changes asks
+/// for no memory.
 #[derive(Drop)]
 pub struct ChangeLog {
     // The changes from `start` on are kept. The ones before it hold no memory.
@@ -160,7 +160,7 @@ fn drop_before(changes: &mut Vec<Change>, start: &mut usize, position: usize, po
 }
 
 impl ChangeLog {
-    /// A log of no change, of which at most `most` may be due.
+    /// An empty log, of whose changes at most `most` may be due.
     pub fn new(alloc: Global, most: usize) -> ChangeLog
         ensures most { result.most ≡ most }
         ensures log { result.log ≡ new_log }
@@ -174,7 +174,7 @@ impl ChangeLog {
         }
     }
 
-    /// How many changes there were.
+    /// The current number. A logged change raises it by one, and so does `resize` where a change is kept.
     pub fn number(&self) -> SequenceNo
         ensures { result ≡ self.now.log.number }
     {
@@ -226,8 +226,8 @@ impl ChangeLog {
         }
     }
 
-    /// Another size, and with it how many changes may be due: where a change is kept the number rises
-    /// by one, and none is kept.
+    /// Sets how many changes may be due, for another size of the screen. Where a change is kept, the
+    /// number rises by one, and all changes are dropped.
     pub fn resize(&mut self, most: usize)
         requires { (self.old.log.entries ≡ []) ⊎ (self.old.log.number + 1 < 2 ^ 64) }
         ensures { self.new ≡ step_of_kept self.old (Resized most) }
@@ -240,7 +240,7 @@ impl ChangeLog {
         self.most = most;
     }
 
-    // Each change that is kept has a number, and no more are than may be due.
+    // Each change that is kept has a number, and at most as many are kept as may be due.
     pub(crate) fn is_counted(&self)
         ensures numbered { length self.now.log.entries ≤ self.now.log.number }
         ensures most { length self.now.log.entries ≤ self.now.most }

@@ -8,8 +8,8 @@ ghost use Rattle.screen_log.specs.LogSteps.{log_of_kept, step_of_kept};
 
 use crate::change_log::ChangeLog;
 
-/// A log that keeps the last changes which may be due answers as one that keeps all, whatever has
-/// happened: the same is due at each number, and the numbers are the same.
+/// After any steps, a log that keeps only the last changes that may be due returns what a log that
+/// keeps all returns: the same changes are due at each number, and the numbers are the same.
 pub fn nothing_due_is_lost()
     ensures due { (most : ℕ) (steps : List LogStep) (number : ℕ) → 0 < most → AreSized steps
         → due (log_of_kept most steps).most (log_of_kept most steps).log number
@@ -38,8 +38,8 @@ pub fn another_change_is_due_last()
         → due log.most (step_of_kept log (Logged change)).log (log.log.number + 1) ≡ Some [] }
 {}
 
-/// Another size counts one where the log isn't empty, and empties it; where it is empty nothing is
-/// changed but how many may be due.
+/// Another size raises the number by one and empties the log where it isn't empty; where it is empty,
+/// only the number of changes that may be due is changed.
 pub fn other_sizes_empty_the_log()
     ensures counted { (log : Sized) (most : ℕ) → log.log.entries ≢ []
         → step_of_kept log (Resized most)

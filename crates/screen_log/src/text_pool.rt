@@ -5,15 +5,15 @@ ghost use Rattle.std.specs.String.{string_bytes};
 use std::alloc::{AllocError, Global};
 use std::marker::Model;
 
-// How many texts leave their memory at most, and how many bytes of it each of them.
+// The most texts whose memory is kept, and the most bytes that are kept of one text.
 const MOST_TEXTS: usize = 1024;
 
 const MOST_BYTES: usize = 1024;
 
-/// How many bytes of memory are kept at most.
+/// The most bytes of memory that are kept.
 pub(crate) const MOST_POOLED: usize = 65536;
 
-/// Texts whose memory is kept; a clause sees how many bytes they have room for together.
+/// Texts whose memory is kept. In contracts the value of a pool is their capacity in bytes, summed.
 #[derive(Drop)]
 pub(crate) struct TextPool {
     texts: Vec<String>,
@@ -32,7 +32,7 @@ impl Model for TextPool {
 }
 
 impl TextPool {
-    /// None.
+    /// An empty pool.
     pub(crate) fn new(alloc: Global) -> TextPool
         ensures { result ≤ MOST_POOLED }
     {
@@ -51,8 +51,8 @@ impl TextPool {
         self.texts.reserve(count.min(most))
     }
 
-    /// Keeps the memory of a text, unless it is much, enough is kept, or there is no room for one more. It asks for no
-    /// memory.
+    /// Keeps the memory of a text, unless it is more than `MOST_BYTES`, all kept memory would exceed `MOST_POOLED`, or
+    /// there is no slot for one more text. It asks for no memory.
     #[inline(always)]
     pub(crate) fn put(&mut self, text: String)
         ensures { self.new ≤ MOST_POOLED }

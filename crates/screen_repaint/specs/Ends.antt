@@ -25,7 +25,7 @@ abbrev pub ends_in : Option Attributes → Attributes → Bool
 ends_in None attributes = false
 ends_in (Some blanks) attributes = same_attributes blanks attributes
 
--- another cell
+-- the end of a row with one cell more
 abbrev pub with_cell : End → CellContent → End
 with_cell end cell =
     if is_blank_of cell.attributes.background cell then

@@ -16,16 +16,16 @@ use Rattle.screen_repaint.specs.Repaint.{are_some, is_blank_row, row_cells, pen_
 abbrev pub rows_of : List LineContent → List Row
 rows_of lines = map (λ l. l.columns) lines
 
--- no text goes on
+-- ends the texts of the cells so far: later cells aren't joined to them
 abbrev pub ended : Written → Written
 ended written = record written { changes = finished written; cells = [] }
 
--- other changes after, and no text goes on
+-- the changes with others after them; later cells aren't joined to a text before
 abbrev pub with_changes : List ChangeValue → Written → Written
 with_changes changes written =
     record { changes = written.changes ++ changes; pen = pen_left written.pen changes; cells = [] }
 
--- to the start of a row further down
+-- moves the cursor to the start of the row `count` rows further down
 abbrev pub moves : ℕ → List ChangeValue
 moves count = replicate count (CursorPosition (Absolute 0) (Relative (pos 1)))
 
@@ -48,7 +48,7 @@ abbrev pub AreFilled : List Row → Type 0
 AreFilled [] = ⊤
 AreFilled (row ∷ rows) = (0 < length (row_cells row)) × AreFilled rows
 
--- the rows below, unless they go with the blanks of the row above
+-- the rows below, or none where they are cleared with the blanks of the row above
 abbrev pub rest_of : Bool → List LineContent → List LineContent
 rest_of below_too below = if below_too then [] else below
 

@@ -20,7 +20,8 @@ use Rattle.screen_effects.specs.Pen.{with_attribute}
 
 -- ---- the pen
 
--- a change gives the pen attributes, or one of them, and a clear leaves it plain on its colour
+-- the pen after a change: one may set all attributes or one of them, and a clear leaves it plain with the clear's
+-- colour as background
 abbrev pub pen_after : Attributes → ChangeValue → Attributes
 pen_after pen (Attribute change) = with_attribute pen change
 pen_after pen (AllAttributes attributes) = attributes
@@ -43,8 +44,8 @@ row_cells row = contents (visible_cells row)
 abbrev pub is_blank_row : ColorAttribute → Row → Bool
 is_blank_row color row = list_all (is_blank_of color) (row_cells row)
 
--- whether the rows below go with a row's blanks in one clear: there are some, all are blanks of the same colour, and it
--- isn't the default
+-- whether the rows below are cleared with a row's blanks by one clear: there are some, all are blanks of the same
+-- colour, and it isn't the default
 abbrev pub go_with_blanks : Option ColorAttribute → List Row → Bool
 go_with_blanks None below = false
 go_with_blanks (Some Default) below = false
@@ -62,12 +63,12 @@ row_painted pen cells below_too =
     let background = background_at_end cells in
     cells_written pen (less_blanks background cells) ++ end_cleared background below_too
 
--- to the start of the next row, if anything follows
+-- moves the cursor to the start of the next row before some changes; nothing where there is no change
 abbrev pub in_next_row : List ChangeValue → List ChangeValue
 in_next_row [] = []
 in_next_row (change ∷ changes) = CursorPosition (Absolute 0) (Relative (pos 1)) ∷ change ∷ changes
 
--- the rows, each in turn, on plain blanks; rows that go with a row's blanks are left out
+-- the rows, each in turn, on plain blanks; rows that are cleared with a row's blanks are left out
 abbrev pub rows_painted : Attributes → List Row → List ChangeValue
 rows_painted pen [] = []
 rows_painted pen (row ∷ below) =
@@ -100,12 +101,13 @@ abbrev pub title_due : List ℕ → List ChangeValue
 title_due [] = []
 title_due (byte ∷ title) = Title (byte ∷ title) ∷ []
 
--- the title; an empty one only where it is wanted too
+-- the title; an empty one only with `true`
 abbrev pub titles : Bool → List ℕ → List ChangeValue
 titles true title = Title title ∷ []
 titles false title = title_due title
 
--- a clear with the cursor hidden, titles, rows, the cursor's position, the pen, unless it is in force, and the cursor
+-- a clear with the cursor hidden, titles, rows, the cursor's position, the pen's attributes, unless it has them, and
+-- the cursor
 abbrev pub repaint_with : List ChangeValue → Display → List ChangeValue
 repaint_with titles display =
     let screen = display.screen in

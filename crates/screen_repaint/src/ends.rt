@@ -77,7 +77,7 @@ impl<'a> RowEnd<'a> {
         self.blanks
     }
 
-    // Adds `filled` other cells, and then `blanks` blanks with these attributes.
+    // Adds `filled` cells that are no blanks, and then `blanks` blanks with these attributes.
     pub(crate) fn push(&mut self, filled: usize, blanks: usize, attrs: &'a CellAttributes)
         requires { self.old.cells + (filled + blanks) < 2 ^ 64 }
         ensures { self.new ≡ with_blanks blanks attrs.now (with_filled filled self.old) }
@@ -97,7 +97,8 @@ impl<'a> RowEnd<'a> {
         self.cells += blanks;
     }
 
-    // Adds the next of the remaining cells: as many as are one text, or else one. Returns whether any was left.
+    // Adds the next of the remaining cells: as many as can be passed as one text (`pass_plain`), or else one. Returns
+    // whether any was left.
     fn push_next(&mut self, cells: &mut VisibleCellIter<'a>) -> bool
         requires { self.old.cells + length (cells_left cells.old) < 2 ^ 64 }
         ensures { PassesOn self.old (cells_left cells.old) self.new (cells_left cells.new) result }
@@ -138,8 +139,8 @@ fn is_space_with(cell: &CellRef<'_>, attrs: &CellAttributes) -> bool
     cell.str() == " " && *cell.attrs() == *attrs
 }
 
-// Passes the next of the remaining cells, as many as are one text, or else one. Returns whether they are spaces with
-// these attributes. `None`: none is left.
+// Passes the next of the remaining cells: as many as can be passed as one text (`pass_plain`), or else one. Returns
+// whether they are spaces with these attributes. `None`: none is left.
 fn pass_spaces(cells: &mut VisibleCellIter<'_>, attrs: &CellAttributes) -> Option<bool>
     ensures { MatchOption result (cells_left cells.old ≡ [])
         (λ are. PassesSpaces attrs.now (cells_left cells.old) (cells_left cells.new) are) }

@@ -22,7 +22,7 @@ use cell_line::{Line, VisibleCellIter};
 use screen_change::{CellWriter, Change};
 use std::alloc::AllocError;
 
-// Moves to the start of a row further down.
+// Moves the cursor to the start of the row `count` rows further down.
 fn write_moves(writer: &mut CellWriter<'_>, count: usize) -> Result<(), AllocError>
     requires { writer.old.cells ≡ [] }
     ensures { OnOk result (writer.new ≡ with_changes (moves count) writer.old) }
@@ -36,8 +36,8 @@ fn write_moves(writer: &mut CellWriter<'_>, count: usize) -> Result<(), AllocErr
     Ok(())
 }
 
-// Writes the next of the remaining cells: as many as are one text and at most `most`, or else one. Returns how many; 0
-// where none is left, or `most` is 0.
+// Writes the next of the remaining cells: as many as can be passed as one text (`pass_plain`) and at most `most`, or
+// else one. Returns how many; 0 where none is left, or `most` is 0.
 fn write_next<'a>(
     writer: &mut CellWriter<'a>,
     cells: &mut VisibleCellIter<'a>,
@@ -78,7 +78,7 @@ fn write_cells<'a>(
     }
 }
 
-// Clears the blanks at a row's end, and the rows below with them.
+// Clears the blanks at a row's end, and with `below_too` also the rows below. Ends the texts before them.
 fn write_clear<'a>(
     writer: &mut CellWriter<'a>,
     blanks: Option<&'a CellAttributes>,
@@ -134,7 +134,7 @@ fn is_coloured(color: ColorAttribute) -> bool
     }
 }
 
-// Whether anything is painted of a row that ends so.
+// Whether anything is painted of a row with this end.
 fn is_painted(end: &RowEnd<'_>) -> bool
     ensures { (pen : Attributes) (cells : List CellContent) (below : List Row) → end.now ≡ end_of cells
         → result ≡ are_some (row_painted pen cells (go_with_blanks (background_at_end cells) below)) }
@@ -166,7 +166,7 @@ fn are_all(
     ends_in(blanks, attrs) && lines.len() <= count
 }
 
-// Whether the lines below go with the blanks at the end of a line.
+// Whether one clear covers the blanks at the end of a line and the lines below.
 fn go_with(
     blanks: Option<&CellAttributes>,
     tail: (usize, Option<&CellAttributes>),
@@ -183,7 +183,7 @@ fn go_with(
     is_coloured(attrs.background()) && are_all(tail.0, tail.1, below, attrs)
 }
 
-// The lines below, unless they go with the blanks of the line above.
+// The lines below, or none where they are cleared with the blanks of the line above.
 fn rest_of<'a>(below_too: bool, below: &'a [Line]) -> &'a [Line]
     ensures { result.now ≡ rest_of below_too below.now }
 {

@@ -28,7 +28,7 @@ fn write(writer: &mut CellWriter<'_>, change: Change) -> Result<(), AllocError>
     Ok(())
 }
 
-// A blank screen, with the cursor hidden.
+// Hides the cursor, and clears the screen.
 fn write_clear(writer: &mut CellWriter<'_>) -> Result<(), AllocError>
     requires ended { writer.old.cells ≡ [] }
     requires plain { writer.old.pen ≡ plain }
@@ -39,7 +39,7 @@ fn write_clear(writer: &mut CellWriter<'_>) -> Result<(), AllocError>
     Ok(())
 }
 
-// A title.
+// Writes the change that sets a title.
 fn write_title(alloc: Global, writer: &mut CellWriter<'_>, title: &str) -> Result<(), AllocError>
     requires { writer.old.cells ≡ [] }
     ensures { OnOk result (writer.new ≡ with_changes (Title title.now ∷ []) writer.old) }
@@ -49,7 +49,7 @@ fn write_title(alloc: Global, writer: &mut CellWriter<'_>, title: &str) -> Resul
     Ok(())
 }
 
-// The title, unless it is empty and an empty one isn't wanted.
+// Writes the title; an empty one only with `also_empty`.
 fn write_titles(
     alloc: Global,
     writer: &mut CellWriter<'_>,
@@ -73,7 +73,7 @@ fn is_home(position: (usize, usize)) -> bool
     position.0 == 0 && position.1 == 0
 }
 
-// The cursor's position, unless nothing was painted and it is home.
+// Writes the cursor's position, unless nothing was painted and it is home.
 fn write_position(
     writer: &mut CellWriter<'_>,
     position: (usize, usize),
@@ -96,7 +96,7 @@ fn write_position(
     Ok(())
 }
 
-// The pen's attributes, unless it has them.
+// Writes the pen's attributes, unless the writer's pen has them.
 fn write_pen<'a>(writer: &mut CellWriter<'a>, pen: &'a CellAttributes) -> Result<(), AllocError>
     requires { writer.old.cells ≡ [] }
     ensures { OnOk result (writer.new ≡ with_changes (attributes_due writer.old.pen pen.now) writer.old) }
@@ -105,7 +105,7 @@ fn write_pen<'a>(writer: &mut CellWriter<'a>, pen: &'a CellAttributes) -> Result
     Ok(())
 }
 
-// The cursor's shape, if one was set.
+// Writes the cursor's shape, if one was set.
 fn write_shape(writer: &mut CellWriter<'_>, shape: Option<CursorShape>) -> Result<(), AllocError>
     requires { writer.old.cells ≡ [] }
     ensures { OnOk result (writer.new ≡ with_changes (shape_due shape) writer.old) }
@@ -116,7 +116,7 @@ fn write_shape(writer: &mut CellWriter<'_>, shape: Option<CursorShape>) -> Resul
     Ok(())
 }
 
-// The cursor with its shape, unless it is hidden.
+// Shows the cursor with its shape, unless it is hidden.
 fn write_cursor(
     writer: &mut CellWriter<'_>,
     visibility: CursorVisibility,
@@ -133,7 +133,7 @@ fn write_cursor(
     Ok(())
 }
 
-// The changes of a repaint, given the attributes of a plain pen, with the title, or with it where it isn't empty.
+// The changes of a repaint. `attrs` are plain attributes. An empty title is written only with `also_empty`.
 fn repaint_from<'a, W: Widths + Drop>(
     alloc: Global,
     grid: &'a Grid<W>,
@@ -158,11 +158,11 @@ fn repaint_from<'a, W: Widths + Drop>(
 }
 
 /// The changes that paint a grid on any screen of its size, from a clear on: the title, unless it is
-/// empty; row by row the cells, each run of neighbours of equal attributes after these, unless the
-/// pen has them, and a clear for the blanks of one background at a row's end, unless it is the
-/// default one; where all rows below are blanks of that background too, one clear to the end of the
-/// screen replaces them. Then the cursor's position, the pen, and the cursor with its shape, if it is
-/// shown.
+/// empty; row by row the cells, each run of neighbours of equal attributes after these attributes,
+/// unless the pen has them, and a clear to the end of the row for the blanks of one background there,
+/// unless that is the default one; where all rows below are blanks of that background too, one clear
+/// to the end of the screen replaces these clears. Then the cursor's position, the pen, and the cursor
+/// with its shape, if it is shown.
 pub fn repaint<W: Widths + Drop>(alloc: Global, grid: &Grid<W>) -> Result<Vec<Change>, AllocError>
     requires { IsDrawn grid.now }
     ensures { IfOk result (λ changes. map value_of changes.items ≡ repaint (display_of grid.now)) }

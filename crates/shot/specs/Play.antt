@@ -7,7 +7,7 @@ use Rattle.recordings.specs.Events as recorded
 use Rattle.terminal_table.specs.History.{History, Step, Piece, Look, Resize}
 use Rattle.terminal_table.specs.Meaning.{View, after}
 
--- what an event does to a terminal
+-- the step of a terminal's history for an event's act
 abbrev pub step_of : recorded.Act → Step
 step_of (recorded.Output bytes) = Piece bytes
 step_of (recorded.Resize width height) = Resize width height
@@ -19,14 +19,14 @@ steps_of events = map (λ (event : recorded.Event). step_of event.act) events
 abbrev pub is_by : ℕ → recorded.Event → Bool
 is_by time event = nat_le event.time time
 
--- the events that are, and those after them; no event is before the one before it
+-- the events at a time or before it, and the events after it; no event is before the event before it
 abbrev pub until : ℕ → List recorded.Event → List recorded.Event
 until time events = take (prefix_len (is_by time) events) events
 
 abbrev pub events_after : ℕ → List recorded.Event → List recorded.Event
 events_after time events = drop (prefix_len (is_by time) events) events
 
--- from a view, events up to a time, and a look at it
+-- a view after the events up to a time, and a look at that time
 unfoldable pub view_at : View → List recorded.Event → ℕ → View
 view_at view events time = after program_width view (steps_of (until time events) ++ Look ∷ [])
 

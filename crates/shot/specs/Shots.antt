@@ -1,4 +1,4 @@
--- What is written of a recording.
+-- The screens that are written of a recording, and their times.
 use Rattle.std.specs.Prelude.{ℕ, zero, suc, ◌+◌, ◌-◌, ◌/◌, ◌==◌, Bool, nat_le, nat_lt, ◌||◌, ◌&&◌, not, List, [], ◌∷◌}
 use Rattle.std.specs.Prelude.{Option, Some, None, is_some, length, map, slice_index, unwrap_or, if◌then◌else◌}
 use Rattle.std.specs.List.{flat_map}
@@ -17,8 +17,7 @@ last_time events = slice_index (map (λ (event : recorded.Event). event.time) ev
 abbrev pub end_of : Option ℕ → List recorded.Event → ℕ
 end_of at events = unwrap_or at (last_time events)
 
--- whether all that is done up to the end is known: after a line that is wrong there may be more events at the last
--- time
+-- whether all events up to the end are known: after a line that is wrong there may be more events at the last time
 abbrev pub is_known : Option ℕ → Recording → Bool
 is_known at recording =
     not (is_some recording.fault) || nat_lt (end_of at recording.events) (last_time recording.events)
@@ -27,7 +26,7 @@ is_known at recording =
 abbrev pub count_below : ℕ → ℕ → ℕ
 count_below step time = if step == 0 then 0 else (time - 1) / step
 
--- as many times as the count, each a step after the one before it, and then `remaining`
+-- `count` times, each a step after the one before it, and then `remaining`; all in microseconds
 abbrev pub times_after : ℕ → ℕ → ℕ → List ℕ → List ℕ
 times_after time step zero remaining = remaining
 times_after time step (suc count) remaining = (time + step) ∷ times_after (time + step) step count remaining
@@ -36,7 +35,8 @@ times_after time step (suc count) remaining = (time + step) ∷ times_after (tim
 abbrev pub multiples : ℕ → ℕ → List ℕ → List ℕ
 multiples step time remaining = times_after 0 step (count_below step time) remaining
 
--- the multiples of the step below the end, and the end; of a recording with a line that is wrong those that are known
+-- the times of the screens: the multiples of the step below the end, and the end; of a recording with a line that is
+-- wrong those whose events are all known
 abbrev pub times_of : Option ℕ → ℕ → Recording → List ℕ
 times_of at step recording =
     if is_known at recording then multiples step (end_of at recording.events) (end_of at recording.events ∷ [])
@@ -50,12 +50,12 @@ unfoldable pub shots : Format → Option ℕ → ℕ → Recording → List ℕ
 shots format at step recording =
     pictures format (new_view recording.width recording.height) recording.events (times_of at step recording)
 
--- a number of columns or rows that is given, where it is from 1 to 4096, or else the recording's
+-- a number of columns or rows from the command line, if it is from 1 to 4096, or else the recording's
 abbrev pub chosen : ℕ → Option ℕ → ℕ
 chosen other None = other
 chosen other (Some given) = if nat_lt 0 given && nat_le given 4096 then given else other
 
--- a recording whose size at first is another one
+-- a recording with the size of the command line in place of its size at first
 abbrev pub with_size : Option ℕ → Option ℕ → Recording → Recording
 with_size width height recording =
     record recording { width = chosen recording.width width; height = chosen recording.height height }

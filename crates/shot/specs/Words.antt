@@ -1,4 +1,4 @@
--- What the texts of a command line give.
+-- The options in the texts of a command line.
 use Rattle.std.specs.Prelude.{◌==◌, Option, Some, None, Result, Ok, Err, ℕ, codes, if◌then◌else◌}
 use Rattle.std.specs.Option.{option_map_or}
 use Rattle.std.specs.Str.{bytes_eq}
@@ -11,7 +11,7 @@ use Rattle.shot.specs.declared.options.BadWords.{BadWords}
 use Rattle.shot.specs.declared.options.BadWords.TheVariants.{Command, Seconds}
 use Rattle.shot.specs.declared.shots.Shots.{Shots}
 
--- the form of that name; of any other one the rows
+-- the form of a name; `Text` for any other name
 unfoldable pub format_of : Text → Format
 format_of name =
     if bytes_eq name (codes "ansi") then form.Ansi
@@ -19,17 +19,17 @@ format_of name =
     else (if bytes_eq name (codes "svg") then form.Svg
     else (if bytes_eq name (codes "json") then form.Json else form.Text)))
 
--- the option whose number of seconds words are refused for
+-- the option whose number of seconds is wrong, if this is why the words are refused
 abbrev pub option_of : BadWords → Option Text
 option_of (Command error) = None
 option_of (Seconds option) = Some option.now
 
--- the kind of error that the command line's parser refuses them by
+-- the kind of error of the command line's parser, if this is why the words are refused
 abbrev pub kind_in : BadWords → Option ErrorKind
 kind_in (Command error) = Some (kind_of error)
 kind_in (Seconds option) = None
 
--- what is read of words, or the option that they are refused for
+-- a value that is read from words, or the option that they are refused for
 abbrev pub Reading : Type 0 → Type 0
 Reading A = Result A (Option Text)
 
@@ -37,7 +37,7 @@ abbrev pub reading_of : {A : Type 0} → Result A BadWords → Reading A
 reading_of (Ok read) = Ok read
 reading_of (Err words) = Err (option_of words)
 
--- the microseconds of an option's text; without a text none
+-- the microseconds of an option's text, refused where the text is no time
 abbrev pub time_by : Text → Option ℕ → Reading (Option ℕ)
 time_by option None = Err (Some option)
 time_by option (Some time) = Ok (Some time)
@@ -46,7 +46,7 @@ unfoldable pub seconds_of : Text → Option Text → Reading (Option ℕ)
 seconds_of option None = Ok None
 seconds_of option (Some text) = time_by option (time_of text)
 
--- with a step, which is not 0
+-- the request with a step, which must not be 0; without one the step is 0
 abbrev pub with_step : Format → Option ℕ → Reading (Option ℕ) → Reading Shots
 with_step format at (Err option) = Err option
 with_step format at (Ok None) = Ok (record { format = format; at = at; step = 0 })
@@ -57,7 +57,7 @@ abbrev pub with_times : Format → Reading (Option ℕ) → Reading (Option ℕ)
 with_times format (Err option) step = Err option
 with_times format (Ok at) step = with_step format at step
 
--- what the texts of the options `format`, `at` and `step` ask for
+-- the request of the texts of the options `format`, `at` and `step`
 unfoldable pub asked_by : Option Text → Option Text → Option Text → Reading Shots
 asked_by format at step =
     with_times (option_map_or format_of format form.Text) (seconds_of (codes "at") at) (seconds_of (codes "step") step)

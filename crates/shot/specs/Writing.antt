@@ -8,9 +8,9 @@ use Rattle.terminal.specs.Headline.{StandsAt}
 use Rattle.terminal.specs.Terminal.{Terminal}
 use Rattle.terminal_table.specs.Meaning.{View}
 
--- The screens at `count` times are to be written from a view and its events; after `time`, `left` of them remain.
--- Those before are written, and the events `rest` remain: with the screens at the remaining times, and at any times
--- after these, they come to the whole.
+-- A part of the screens is written. All screens are those at `count` times, from a view and its events. After `time`,
+-- `left` of them remain, with the events `rest`. The bytes that are written and the screens at the remaining times,
+-- and at any times after these, are together the whole.
 pub record IsWriting {W : Type 0} (format : Format) (view : View) (events : List recorded.Event) (step count : ℕ)
     (terminal : Terminal W) (rest : List recorded.Event) (time left : ℕ) (old new : Option (List ℕ)) : Type 0 where
   pub now : View

@@ -10,10 +10,10 @@ use thiserror::Error;
 /// Why no more screens are written.
 #[derive(Clone, Copy, Debug, PartialEq, Eq, Error)]
 pub enum ShotError {
-    /// The terminal refused what was played to it, or there was no memory.
+    /// The terminal refused an event that was played to it, or there was no memory.
     #[error("{0}")]
     Terminal(TerminalError),
-    /// A write was a fault.
+    /// A write failed.
     #[error("cannot write")]
     Write,
 }

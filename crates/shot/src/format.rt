@@ -14,13 +14,13 @@ use std::alloc::{AllocError, Global};
 pub enum Format {
     /// The rows.
     Text,
-    /// The rows with the sequences of a terminal.
+    /// The rows with control sequences (SGR and OSC 8).
     Ansi,
     /// A page of HTML.
     Html,
     /// A picture.
     Svg,
-    /// An object, in a line.
+    /// An object of JSON, in one line.
     Json,
 }
 

@@ -11,7 +11,7 @@ ghost use Rattle.shot.specs.declared.format.Format.{Format};
 ghost use Rattle.terminal_table.specs.History.{Look};
 ghost use Rattle.terminal_table.specs.Meaning.{meaning};
 
-/// The events of a recording up to a time are exactly those at it or before it, and the rest come after them.
+/// The events of a recording up to a time are exactly those at that time or before it, and the rest are after it.
 pub fn events_are_cut_at_a_time()
     ensures until { (time : ℕ) (events : List RecordedEvent) → AreFrom 0 events
         → until time events ≡ filter (is_by time) events }

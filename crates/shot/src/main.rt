@@ -3,7 +3,7 @@
 //! - `error`: why no more screens are written.
 //! - `format`: a screen in one of five forms.
 //! - `laws`: laws of the definitions, as the contracts of functions that do nothing.
-//! - `options`: what the words of a command line give.
+//! - `options`: the options of a command line.
 //! - `play`: a recording that is played to a terminal.
 //! - `service`: the program on an input, and on its streams.
 //! - `shots`: the screens of a recording.

@@ -1,4 +1,4 @@
-//! What the words of a command line give.
+//! The options of a command line.
 ghost use Rattle.std.specs.Prelude.{◌≡◌, codes};
 ghost use Rattle.clap.specs.Words.{first_value, found_of};
 ghost use Rattle.shot.specs.Words.{asked_by, format_of, reading_of, seconds_of};
@@ -10,10 +10,10 @@ use recordings::time_of;
 use std::alloc::{AllocError, Global};
 use std::convert::AsStr;
 
-/// What a command line asks for.
+/// The options that a command line asks for.
 #[derive(Clone, Copy, Debug)]
 pub struct Options<'a> {
-    /// What is written.
+    /// The screens that are written.
     pub asked: Shots,
     /// Columns of the screen in place of those of the input, from 1 to 4096.
     pub width: Option<u32>,
@@ -23,12 +23,12 @@ pub struct Options<'a> {
     pub file: Option<&'a str>,
 }
 
-/// Why words are no command line.
+/// Why the words of a command line are refused.
 #[derive(Debug, Drop)]
 pub enum BadWords {
-    /// The words are none, or only ask for help or for the version.
+    /// The words are no command line, or only ask for help or for the version.
     Command(Error),
-    /// A number of seconds is none, of the option of that name.
+    /// The option of this name has no number of seconds, or a step of 0.
     Seconds(&'static str),
 }
 
@@ -54,7 +54,7 @@ fn format_option<'a>(alloc: Global) -> Arg<'a> {
         .default_value("text")
 }
 
-// What is read and written.
+// The help text on input and output.
 const MORE: &str = "\
 Input: the bytes that an application writes to its terminal; or a recording in
 asciicast version 2 or 3, which has its size; its first line tells it apart.
@@ -110,7 +110,7 @@ fn command<'a>(alloc: Global) -> Result<Command<'a>, AllocError> {
     command.arg(Arg::new(alloc, "FILE").help("The input [default: standard input]"))
 }
 
-// The form of that name.
+// The form of a name; `Text` for any other name.
 #[tactic(auto, unfolding(crate::specs::Words::format_of))]
 fn format_of(name: &str) -> Format
     ensures { result ≡ format_of name.now }
@@ -124,7 +124,7 @@ fn format_of(name: &str) -> Format
     }
 }
 
-// A number of seconds in microseconds, where the option is given.
+// The microseconds of an option's number of seconds, if the option is given.
 #[tactic(auto, unfolding(crate::specs::Words::seconds_of))]
 fn seconds(matches: &ArgMatches<'_>, name: &'static str) -> Result<Option<u64>, BadWords>
     ensures { reading_of result ≡ seconds_of name.entry.now (first_value (found_of matches.now) name.entry.now) }
@@ -138,7 +138,7 @@ fn seconds(matches: &ArgMatches<'_>, name: &'static str) -> Result<Option<u64>, 
     }
 }
 
-// What the matches ask for.
+// The screens that the matches ask for.
 #[tactic(auto, unfolding(crate::specs::Words::asked_by))]
 fn asked(matches: &ArgMatches<'_>) -> Result<Shots, BadWords>
     ensures { reading_of result ≡ asked_by (first_value (found_of matches.now) (codes "format"))

@@ -19,7 +19,7 @@ use terminal::{ProgramWidth, Terminal, TerminalError};
 /// A terminal that recordings are played to.
 pub type Screen = Terminal<ProgramWidth>;
 
-// Does what is done.
+// Plays an act to the terminal.
 fn act(terminal: &mut Screen, act: &Act) -> Result<(), TerminalError>
     ensures { OnOk result (GoesBy (λ w. program_width) terminal.old terminal.new (step_of (act_of act.now) ∷ [])) }
 {
@@ -29,7 +29,7 @@ fn act(terminal: &mut Screen, act: &Act) -> Result<(), TerminalError>
     }
 }
 
-// Does what events do.
+// Plays events to the terminal.
 fn act_all(terminal: &mut Screen, events: &[Event]) -> Result<(), TerminalError>
     ensures { OnOk result ((view : View) → StandsAt terminal.old view
         → StandsAt terminal.new (after program_width view (steps_of (map event_of events.now)))) }
@@ -40,14 +40,14 @@ fn act_all(terminal: &mut Screen, events: &[Event]) -> Result<(), TerminalError>
     Ok(())
 }
 
-// How many events, the first ones, are at a time or before it.
+// How many of the first events are at a time or before it.
 fn count_until(events: &[Event], time: u64) -> usize
     ensures { result ≡ prefix_len (λ event. is_by time (event_of event)) events.now }
 {
     events.iter().take_while(|event| event.time <= time).count()
 }
 
-// Does what the events up to a time do, and looks; the events after it are left.
+// Plays the events up to a time, and takes a look; returns the events after that time.
 #[tactic(auto, unfolding(crate::specs::Play::view_at))]
 fn play_until<'a>(
     terminal: &mut Screen,
@@ -64,7 +64,7 @@ fn play_until<'a>(
     Ok(later)
 }
 
-/// Plays the events up to a time, and writes the screen; the events after it are left.
+/// Plays the events up to a time, and writes the screen; returns the events after that time.
 pub fn write_screen<'a, T: Write>(
     alloc: Global,
     terminal: &mut Screen,

@@ -21,7 +21,7 @@ const FAULT: u8 = 1;
 
 const BAD_WORDS: u8 = 2;
 
-/// Writes a line on what went wrong. That it can't be written is dropped.
+/// Writes a line with a fault, and returns the status 1. If the line can't be written, that is ignored.
 pub fn report<F: Write>(faults: &mut F, fault: &str) -> u8
     ensures { result ≡ FAULT }
 {
@@ -37,7 +37,7 @@ fn write_text<F: Write>(faults: &mut F, texts: &[&str]) -> io::Result<()> {
     faults.flush()
 }
 
-/// Writes why the words are no command line. That it can't be written is dropped.
+/// Writes why the words are refused, and returns the status 2. If this can't be written, that is ignored.
 pub fn refuse<F: Write>(faults: &mut F, texts: &[&str]) -> u8
     ensures { result ≡ BAD_WORDS }
 {
@@ -54,7 +54,7 @@ fn fault_of(error: ShotError) -> &'static str {
     }
 }
 
-// Help and the version go to the writer, and what is wrong with the words to faults.
+// Writes help or the version to `writer`, and a mistake in the words to `faults`.
 fn explain<T: Write, F: Write>(alloc: Global, error: &Error, writer: &mut T, faults: &mut F) -> u8
     ensures status { result ≤ 2 }
     ensures memory { kind_of error.now ≡ ErrorKind.OutOfMemory → result ≡ FAULT }
@@ -82,7 +82,7 @@ fn explain<T: Write, F: Write>(alloc: Global, error: &Error, writer: &mut T, fau
     0
 }
 
-/// Tells why the words are no command line; help and the version go to the writer.
+/// Writes why the words are refused to `faults`, or help or the version to `writer`; returns the status.
 pub fn explain_words<T: Write, F: Write>(
     alloc: Global,
     words: &BadWords,
@@ -116,7 +116,7 @@ pub fn explain_words<T: Write, F: Write>(
     }
 }
 
-// The number that is given, where it is from 1 to 4096, or else the other one.
+// The number `given`, if it is from 1 to 4096, or else `other`.
 fn chosen(other: usize, given: Option<u32>) -> usize
     requires { (0 < other) × (other ≤ 4096) }
     ensures range { (0 < result) × (result ≤ 4096) }
@@ -133,8 +133,8 @@ const USUAL: Size = Size {
     height: 24,
 };
 
-/// Writes the requested screens of an input to the writer, and returns the line of it that is wrong, if one is; then
-/// it writes those screens that no more lines could have changed.
+/// Writes the requested screens of an input, and returns the line of the input that is wrong, if one is; then it writes
+/// only the screens that no later line could have changed.
 pub fn shoot<T: Write>(
     alloc: Global,
     options: Options<'_>,
@@ -164,7 +164,7 @@ pub fn shoot<T: Write>(
     Ok(fault)
 }
 
-// Tells which line of a file is wrong.
+// Reports which line of a file is wrong.
 fn tell_line<F: Write>(alloc: Global, name: &str, bad: BadLine, faults: &mut F) -> u8
     ensures { result ≡ FAULT }
 {
@@ -202,7 +202,7 @@ fn answer<T: Write, F: Write>(
     }
 }
 
-/// Reads an input of a name to its end, and writes the requested screens of it. It returns the status: 0; or 1 with one
+/// Reads the input `name` to its end, and writes the requested screens of it. It returns the status: 0; or 1 with one
 /// line on `faults`, where the input can't be read or a line of it is wrong, or where writing or memory failed; the
 /// output written before that stays.
 pub fn serve<R: Read, T: Write, F: Write>(
@@ -229,7 +229,7 @@ pub fn serve<R: Read, T: Write, F: Write>(
     answer(alloc, options, name, &input, writer, faults)
 }
 
-/// Tells that an input can't be read.
+/// Reports that an input can't be read.
 pub fn refuse_input<F: Write>(alloc: Global, name: &str, faults: &mut F) -> u8
     ensures { result ≡ FAULT }
 {

@@ -84,7 +84,7 @@ fn write_whole<T: Write>(
     Ok(())
 }
 
-// Writes the screens at the multiples of a step below a time.
+// Writes the screens at the multiples of a step below the end.
 fn write_part<T: Write>(
     alloc: Global,
     terminal: &mut Screen,
@@ -108,13 +108,13 @@ fn write_part<T: Write>(
 pub struct Shots {
     /// The form of each screen.
     pub format: Format,
-    /// At how many microseconds; without it at the last event.
+    /// The time of the last screen, in microseconds; without it the time of the last event.
     pub at: Option<u64>,
-    /// And at each multiple of this many microseconds before that, if not 0.
+    /// There is also a screen at each multiple of this many microseconds before that time, if this isn't 0.
     pub step: u64,
 }
 
-// Writes the requested screens, by a new terminal.
+// Writes the requested screens of a recording, which is played to a new terminal.
 fn write_by<T: Write>(
     alloc: Global,
     terminal: &mut Screen,
@@ -156,9 +156,9 @@ fn write_by<T: Write>(
 }
 
 /// Plays a recording to a new terminal of its size, and writes the screen at the requested time, as it is after all
-/// events at that time or before it; and before it those at each multiple of the step. The terminal takes a look for
-/// each screen, in order. Of a recording with a line that is wrong it writes those screens that no more events can
-/// change.
+/// events at that time or before it; and before that the screens at each multiple of the step below that time. The
+/// terminal takes a look for each screen, in order. Of a recording with a line that is wrong only the screens are
+/// written that no later event could change.
 pub fn write_shots<T: Write>(
     alloc: Global,
     recording: &Recording,

@@ -1,10 +1,10 @@
--- Terminals whose replies are taken now and then.
+-- Calls of a terminal in turn, in some of which its replies are taken.
 use Rattle.std.specs.Prelude.{◌≡◌, ℕ, List, [], ◌∷◌, ◌++◌}
 use Rattle.terminal.specs.Headline.{GoesBy}
 use Rattle.terminal.specs.Terminal.{Terminal}
 use Rattle.terminal_table.specs.History.{History}
 
--- a terminal goes on by a history, or its replies are taken, which are these
+-- a terminal goes on by a history, or its replies are taken: these bytes
 pub data Call : Type 0 where
   Goes : History → Call
   Takes : List ℕ → Call
@@ -17,7 +17,7 @@ GoesThrough {W = W} width_of before (Goes history ∷ calls) now =
 GoesThrough {W = W} width_of before (Takes replies ∷ calls) now =
     (replies ≡ before.replies) × GoesThrough width_of (record before { replies = [] }) calls now
 
--- what they make of a history, and the replies that they take, joined
+-- the history of all calls, joined, and all replies that they take, joined
 abbrev pub history_in : List Call → History
 history_in [] = []
 history_in (Goes history ∷ calls) = history ++ history_in calls
@@ -28,6 +28,6 @@ taken_in [] = []
 taken_in (Goes history ∷ calls) = taken_in calls
 taken_in (Takes replies ∷ calls) = replies ++ taken_in calls
 
--- it has the replies that were taken too, before those that were not
+-- a terminal that also has replies that were taken, before those that were not
 abbrev pub with_taken : {W : Type 0} → List ℕ → Terminal W → Terminal W
 with_taken taken t = record t { replies = taken ++ t.replies }

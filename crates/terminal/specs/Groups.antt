@@ -1,4 +1,4 @@
--- Cells in groups that are as long as may be: runs of equal attributes, and stretches side by side in a row.
+-- Cells in groups that are as long as possible: runs of equal attributes, and stretches of adjacent cells in a row.
 use Rattle.std.specs.Prelude.{◌≡◌, ⊤, ℕ, ◌+◌, List, [], ◌∷◌, flat_map, fold, map}
 use Rattle.std.specs.List.{AllByRecursion}
 use Rattle.cell_base.specs.Attributes.{Attributes}
@@ -7,7 +7,7 @@ use Rattle.screen_change.specs.CellRuns.{CellRun}
 use Rattle.screen_difference.specs.Difference.{Stretch, cells_of}
 use Rattle.screen_difference.specs.FreshCells.{PlacedCell}
 
--- no group can be joined with the next one; `Join` says which can
+-- no group can be joined with the next one; `Join` is the condition of two groups that can
 abbrev pub NoNeighborsJoin : {G : Type 0} → (G → G → Type 0) → List G → Type 0
 NoNeighborsJoin Join [] = ⊤
 NoNeighborsJoin Join (group ∷ []) = ⊤
@@ -33,7 +33,7 @@ written_by run = map (λ text. (text, run.attributes)) run.cells
 abbrev pub HaveEqualAttributes : CellRun → CellRun → Type 0
 HaveEqualAttributes run next = run.attributes ≡ next.attributes
 
--- the runs hold the texts and attributes of the cells; no run is empty, and the next one's attributes differ
+-- the runs hold the texts and attributes of the cells; no run is empty, and the next run's attributes differ
 abbrev pub AreRunsOf : List CellContent → List CellRun → Type 0
 AreRunsOf cells runs = AreLongestGroupsOf written_by HaveEqualAttributes (map written cells) runs
 
@@ -55,6 +55,6 @@ column_after stretch = fold (λ column cell. column + cell.width) stretch.column
 abbrev pub GoesOn : Stretch → Stretch → Type 0
 GoesOn stretch next = (next.row ≡ stretch.row) × (next.column ≡ column_after stretch)
 
--- the placed cells of the stretches are the cells; no stretch is empty, and none goes on in the next one
+-- the cells of the stretches in turn are the cells; no stretch is empty, and none is continued by the next one
 abbrev pub AreStretchesOf : List PlacedCell → List Stretch → Type 0
 AreStretchesOf cells stretches = AreLongestGroupsOf placed_by GoesOn cells stretches

@@ -1,4 +1,4 @@
--- The headline: what a terminal means, what its viewers show, and what a patch prints.
+-- The main statements: the meaning of a terminal, the screens of its viewers, and the cells that a patch prints.
 use Rattle.std.specs.Prelude.{◌≡◌, ℕ, false, All, List, [], ◌∷◌, ◌++◌, map}
 use Rattle.screen_log.specs.LogSteps.{Sized}
 use Rattle.escape_framing.specs.Held.{held_of}
@@ -14,7 +14,8 @@ use Rattle.terminal_table.specs.History.{History, Piece}
 use Rattle.terminal_table.specs.Logged.{log_after}
 use Rattle.terminal_table.specs.Meaning.{View, after}
 
--- A terminal is at a view: it has its state and its run, and of its stream nothing else is unfinished.
+-- A terminal stands at a view: it has the view's state and held run, and its unfinished bytes are those of the view's
+-- stream.
 pub record StandsAt {W : Type 0} (t : Terminal W) (view : View) : Type 0 where
   pub state : state_in t ≡ view.state
   pub run : t.run ≡ view.held
@@ -24,8 +25,9 @@ pub record StandsAt {W : Type 0} (t : Terminal W) (view : View) : Type 0 where
 abbrev pub final_log : {W : Type 0} → (W → List ℕ → ℕ) → Terminal W → View → History → Sized
 final_log width_of t view history = log_after (width_of t.surface.grid.widths) view t.surface.log history
 
--- Its screen and replies are the table's meaning of a history of bytes, looks and resizes: from whatever view, it is
--- now at the view to which the history leads, and its log is the log after the history.
+-- A terminal's screen and replies are the table's meaning of a history of bytes, looks, resizes and forgotten changes:
+-- from whatever view it stood at, it now stands at the view after the history, and its log is the log after the
+-- history.
 pub record GoesBy {W : Type 0} (width_of : W → List ℕ → ℕ) (before now : Terminal W) (history : History) : Type 0 where
   pub stands : (view : View) → StandsAt before view
       → StandsAt now (after (width_of before.surface.grid.widths) view history)
@@ -39,8 +41,8 @@ PiecesJoin {W} width_of = (first between last : Terminal W) (x y : List ℕ)
     → GoesBy width_of first between (Piece x ∷ []) → GoesBy width_of between last (Piece y ∷ [])
     → GoesBy width_of first last (Piece (x ++ y) ∷ [])
 
--- A viewer that repeats the terminal's resizes and reads its updates and patches whole shows, after each answer, the
--- screen that the one had which answered it, in every session of turns that begins at the terminal.
+-- In every session that begins at the terminal, a viewer that repeats the resizes and reads its updates and patches
+-- whole shows after each answer the screen of the terminal or viewer that answered it.
 abbrev pub ViewersShow : {W : Type 0} → (W → List ℕ → ℕ) → Terminal W → Type 0
 ViewersShow width_of t = (view : View) (count : ℕ) (turns : List Turn) (at : ℕ) (answer : Answer)
     → t.is_failed ≡ false → StandsAt t view → All IsTurn turns
@@ -48,7 +50,8 @@ ViewersShow width_of t = (view : View) (count : ℕ) (turns : List Turn) (at : �
     let chain = session (width_of t.surface.grid.widths) start (turns ++ Answers at answer ∷ []) in
     IsShown at chain.terminal chain.viewers
 
--- A patch prints exactly the cells not already shown, and one more only at a pending wrap (`position_prints`).
+-- A patch prints exactly the cells that the viewer doesn't show, and one more only at a pending wrap
+-- (`position_prints`).
 abbrev pub PatchesPrintFresh : {W : Type 0} → (W → List ℕ → ℕ) → Terminal W → Terminal W → Type 0
 PatchesPrintFresh {W} width_of t viewer = (shown : Terminal W) (view : View)
     → CanReadFrom width_of t viewer shown → StandsAt viewer view

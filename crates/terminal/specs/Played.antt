@@ -1,4 +1,4 @@
--- The steps of a terminal, as its history.
+-- The steps that `play` does, as a terminal's history.
 use Rattle.std.specs.Prelude.{⊤, List, [], ◌∷◌, map}
 use Rattle.cell_base.specs.ScreenSize.{IsScreenSize}
 use Rattle.terminal.specs.declared.steps.Step.{Step}

@@ -22,8 +22,8 @@ patch_between width height old new = patch_of (screen_after width height old) (s
 abbrev pub printed : List ℕ → List ℕ
 printed text = text ++ 0 ∷ []
 
--- A screen without a title that is painted anew: the cursor is hidden, and the screen cleared; after its rows and the
--- position the cursor is shown.
+-- The bytes that paint a screen without a title anew: the cursor is hidden and the screen cleared; after the bytes of
+-- the rows and of the position the cursor is shown.
 abbrev pub painted : List ℕ → List ℕ
 painted rows =
     csi (codes "?25l") ++ plain_pen ++ csi (codes "2J") ++ csi (codes "1;1H") ++ osc (codes "2;") ++ rows

@@ -10,7 +10,7 @@ abbrev pub rows_shown : (List ℕ → ℕ) → ℕ → ℕ → List ℕ → List
 rows_shown width_of width height input =
     screen_text (meaning width_of width height (Piece input ∷ Look ∷ [])).state.screen
 
--- what the writer has gained is the first of these bytes, or all of them
+-- the bytes that were appended to the writer's contents are a prefix of `bytes`, which may be all of them
 pub record AppendsPrefix (old new : Option (List ℕ)) (bytes : List ℕ) : Type 0 where
   pub written : List ℕ
   pub remaining : List ℕ

@@ -1,4 +1,4 @@
--- A terminal, and what a history makes of it.
+-- A terminal: its parts, and when it is idle.
 use Rattle.std.specs.Prelude.{◌≡◌, ℕ, Bool, List, [], Option}
 use Rattle.cell_surface.specs.Surface.{Surface}
 use Rattle.escape_framing.specs.Held.{Held, nothing_held}
@@ -7,8 +7,8 @@ use Rattle.terminal_steps.specs.TerminalStates.{state_of}
 use Rattle.terminal_table.specs.State.{SavedCursor, State}
 use Rattle.terminal_viewers.specs.Encodable.{CanBeEncoded}
 
--- its surface, the saved cursor, the replies that were not yet taken, the run that nothing has ended, what is
--- unfinished of the stream, and whether a call was refused
+-- the surface, the saved cursor, the replies that were not yet taken, the run that nothing has ended, the unfinished
+-- bytes of the stream, and whether the terminal has failed
 pub record Terminal (W : Type 0) : Type 0 where
   pub surface : Surface W
   pub saved : Option SavedCursor
@@ -17,12 +17,12 @@ pub record Terminal (W : Type 0) : Type 0 where
   pub unfinished : Held
   pub is_failed : Bool
 
--- its state
+-- the state of a terminal
 abbrev pub state_in : {W : Type 0} → Terminal W → State
 state_in t = state_of t.surface t.saved t.replies
 
--- Viewers can get each of its changes: its screen, the pen that was saved, the run and the changes that its log keeps
--- have an encoding.
+-- A terminal's screen, the saved pen, the held run and the changes that its log keeps have an encoding, so that viewers
+-- can get each change.
 pub record IsSpelled {W : Type 0} (t : Terminal W) : Type 0 where
   pub surface : CanBeEncoded t.surface
   pub saved : IsSpelledSaved t.saved
@@ -33,7 +33,7 @@ pub record IsIdle {W : Type 0} (t : Terminal W) : Type 0 where
   pub run : t.run ≡ []
   pub unfinished : t.unfinished ≡ nothing_held
 
--- two show the same, and go on alike
+-- two terminals have the same state, run, unfinished bytes and log, so that they go on alike
 pub record IsAlike {W : Type 0} (one other : Terminal W) : Type 0 where
   pub state : state_in one ≡ state_in other
   pub run : one.run ≡ other.run

@@ -16,7 +16,8 @@ terminal_of i = record {
   is_failed = i.is_failed;
 }
 
--- while no call was refused, its parts go on, the unfinished rest is that of some stream, and changes have encodings
+-- the invariant of a terminal that hasn't failed: its parts haven't failed, its unfinished bytes are those of some
+-- stream, and its changes have encodings
 pub record CanGoOn {W : Type 0} (i : Inside W) : Type 0 where
   pub ready : IsReady i.state
   pub parser : i.parser.failed ≡ false

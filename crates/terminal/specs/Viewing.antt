@@ -1,4 +1,4 @@
--- Terminals that show what another one showed.
+-- Viewers: terminals that show the screen of another terminal.
 use Rattle.std.specs.Prelude.{◌≡◌, ℕ, false, List, length}
 use Rattle.cell_base.specs.Screen.{Screen}
 use Rattle.screen_change.specs.ChangeValue.{ChangeValue}
@@ -19,12 +19,12 @@ update_for t number = update_of (state_in t).screen t.surface.log number
 abbrev pub changes_for : {W : Type 0} → Terminal W → ℕ → List ChangeValue
 changes_for t number = update_changes (state_in t).screen t.surface.log number
 
--- the bytes that bring a viewer up to date that shows what another terminal shows
+-- the bytes that bring a viewer up to date that shows the screen of the terminal `shown`
 abbrev pub patch_from : {W : Type 0} → Terminal W → Terminal W → List ℕ
 patch_from t shown = patch_of (state_in shown).screen (state_in t).screen
 
--- A viewer can read the patch of a terminal from what another one shows: it and the terminal haven't failed, nothing is
--- unfinished or held at it, the widths of both answer alike, they have one size, and it shows what the other one shows.
+-- A viewer can read the patch of the terminal `t` from the screen of `shown`: it and `t` haven't failed, it has nothing
+-- unfinished and no held run, both measure widths alike, they have one size, and it shows the screen of `shown`.
 pub record CanReadFrom {W : Type 0} (width_of : W → List ℕ → ℕ) (t viewer shown : Terminal W) : Type 0 where
   pub sound : t.is_failed ≡ false
   pub reads : viewer.is_failed ≡ false
@@ -38,7 +38,7 @@ pub record CanReadFrom {W : Type 0} (width_of : W → List ℕ → ℕ) (t viewe
 abbrev pub standing_of : {W : Type 0} → Terminal W → View → Standing
 standing_of t view = record { view = view; log = t.surface.log }
 
--- what is printed when that update is read
+-- the text that is printed when the update for a number is read
 abbrev pub update_prints : {W : Type 0} → Terminal W → ℕ → List ℕ
 update_prints t number = prints_in (stream_actions (update_for t number))
 
@@ -46,8 +46,8 @@ update_prints t number = prints_in (stream_actions (update_for t number))
 abbrev pub ShowsAt : {W : Type 0} → (W → List ℕ → ℕ) → Screen → ℕ → Terminal W → Type 0
 ShowsAt width_of shown number t = Shows (width_of t.surface.grid.widths) shown number (state_in t).screen t.surface.log
 
--- A viewer can read the update of a terminal for a number: neither has failed, nothing is unfinished or held at the
--- viewer, the widths of both answer alike, and the viewer's screen shows the terminal at that number.
+-- A viewer can read the update of a terminal for a number: neither has failed, the viewer has nothing unfinished and no
+-- held run, both measure widths alike, and the viewer's screen shows the terminal at that number.
 pub record CanReadSince {W : Type 0} (width_of : W → List ℕ → ℕ) (t viewer : Terminal W) (number : ℕ) : Type 0 where
   pub sound : t.is_failed ≡ false
   pub reads : viewer.is_failed ≡ false

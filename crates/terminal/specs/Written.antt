@@ -9,7 +9,7 @@ use Rattle.terminal_table.specs.History.{Look, Forget}
 use Rattle.terminal_viewers.specs.Update.{update_of}
 use Rattle.terminal_viewers.specs.Updates.{Standing, in_chunks, looks, standing_after, updates_after}
 
--- a terminal is at a view, with a log
+-- a terminal stands at a view, with a log
 pub record IsAt {W : Type 0} (t : Terminal W) (s : Standing) : Type 0 where
   pub stands : StandsAt t s.view
   pub log : t.surface.log ≡ s.log
@@ -23,7 +23,7 @@ IsCounted s = length s.log.log.entries ≤ s.log.log.number
 abbrev pub looked : (List ℕ → ℕ) → Standing → Standing
 looked width_of s = standing_after width_of s (Look ∷ [])
 
--- the changes before a number are forgotten, and the replies dropped
+-- a standing whose changes before a number are forgotten, and whose replies are dropped
 abbrev pub lightened : (List ℕ → ℕ) → ℕ → Standing → Standing
 lightened width_of number s =
     let t = standing_after width_of s (Forget number ∷ []) in
@@ -35,7 +35,8 @@ pub record Lightens {W : Type 0} (width_of : W → List ℕ → ℕ) (before now
   pub goes : GoesBy width_of before forgotten (Forget number ∷ [])
   pub dropped : now ≡ record forgotten { replies = [] }
 
--- from where on changes are due to a viewer at a number: to one at number 0 none is, since it gets the whole screen
+-- the number from which on the log must keep changes for a viewer at a number; a viewer at number 0 needs none, since
+-- it gets the whole screen
 abbrev pub due_from : {W : Type 0} → Terminal W → ℕ → ℕ
 due_from t number = if number == 0 then number_of t.surface else number
 
@@ -43,7 +44,8 @@ due_from t number = if number == 0 then number_of t.surface else number
 abbrev pub update_at : Standing → ℕ → List ℕ
 update_at s number = update_of s.view.state.screen s.log number
 
--- after a look the update was written, and answers the number that the viewer has then; what is older is forgotten
+-- after a look the update was written; `next` is the number that the viewer then holds, and the changes before it are
+-- forgotten
 pub record UpdateWritten {W : Type 0} (width_of : List ℕ → ℕ) (s : Standing) (number next : ℕ) (now : Terminal W)
     (old new : Option (List ℕ)) : Type 0 where
   pub appends : Appends old new (update_at (looked width_of s) number)
@@ -55,7 +57,7 @@ abbrev pub Sends : {W : Type 0} → (W → List ℕ → ℕ) → Terminal W → 
 Sends width_of before now number next old new =
     (s : Standing) → IsAt before s → UpdateWritten (width_of before.surface.grid.widths) s number next now old new
 
--- the first bytes of it were written
+-- a prefix of the update was written
 abbrev pub SendsSome : {W : Type 0} → (W → List ℕ → ℕ) → Terminal W → ℕ → Option (List ℕ) → Option (List ℕ) → Type 0
 SendsSome width_of before number old new =
     (s : Standing) → IsAt before s
@@ -78,14 +80,15 @@ SendsAll width_of every before (Some input) old new =
     (start : Standing) → IsAt before start → IsCounted start
     → Appends old new (updates_from (width_of before.surface.grid.widths) every start input)
 
--- of an input some bytes were read, and the rest is left
+-- some bytes of an input were read, and the rest is left
 pub record IsPartRead (input : List ℕ) (left : Option (List ℕ)) : Type 0 where
   pub read : List ℕ
   pub rest : List ℕ
   pub whole : input ≡ read ++ rest
   pub remaining : left ≡ Some rest
 
--- then what was written is the first bytes of the updates of what was read, and of the whole
+-- a part of an input was read, and the bytes that were written are a prefix of the updates of that part, and of the
+-- updates of the whole input
 pub record SendsPart (width_of : List ℕ → ℕ) (every : ℕ) (start : Standing) (input : List ℕ)
     (left old new : Option (List ℕ)) : Type 0 where
   pub part : IsPartRead input left
@@ -99,7 +102,8 @@ SendsFirst width_of every before (Some input) left old new =
     (start : Standing) → IsAt before start → IsCounted start
     → SendsPart (width_of before.surface.grid.widths) every start input left old new
 
--- or the updates of the whole chunks that were read, and nothing of the chunk that had begun
+-- a part of an input was read, and the bytes that were written are the updates of its full chunks, without the chunk
+-- that had begun
 pub record SendsChunks (width_of : List ℕ → ℕ) (every : ℕ) (start : Standing) (input : List ℕ)
     (left old new : Option (List ℕ)) : Type 0 where
   pub part : IsPartRead input left
@@ -120,7 +124,7 @@ abbrev pub number_after : (List ℕ → ℕ) → ℕ → Standing → List ℕ �
 number_after width_of every start input =
     (standing_after width_of start (looks (in_chunks every [] input))).log.log.number
 
--- a known input, with a look after each chunk, leads past the numbers of 64 bits
+-- the number after an input with a look after each chunk doesn't fit in 64 bits, if the input is known
 abbrev pub LooksNeedNumber : {W : Type 0} → (W → List ℕ → ℕ) → ℕ → Terminal W → Option (List ℕ) → Type 0
 LooksNeedNumber width_of every before None = Unit {0}
 LooksNeedNumber width_of every before (Some input) =

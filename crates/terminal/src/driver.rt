@@ -23,7 +23,7 @@ use std::alloc::Global;
 use std::io::{Read, Write};
 use terminal_steps::TerminalError;
 
-// Writes the bytes, and flushes them.
+// Writes the bytes, and flushes the writer.
 pub(crate) fn write_and_flush<T: Write>(
     writer: &mut Watched<T>,
     bytes: &[u8],
@@ -47,7 +47,7 @@ pub(crate) fn write_and_flush<T: Write>(
 /// How many reads an input may take.
 pub(crate) const READS: u64 = 1 << 48;
 
-// Forgets the changes before a number, and the replies: nobody reads them any more.
+// Forgets the changes before a number, and drops the replies: nobody reads them any more.
 pub(crate) fn forget<W: Widths + Drop>(terminal: &mut Terminal<W>, number: SequenceNo)
     requires sound { terminal.old.is_failed ≡ false }
     ensures lighter { Lightens (λ w. W.width_of w) terminal.old terminal.new number }
@@ -56,7 +56,7 @@ pub(crate) fn forget<W: Widths + Drop>(terminal: &mut Terminal<W>, number: Seque
     let _replies = terminal.take_replies();
 }
 
-// Feeds the whole input, and forgets the changes and the replies, which nobody reads.
+// Feeds the whole input; forgets the changes and drops the replies, which nobody reads.
 fn feed_all<R: Read, W: Widths + Drop>(
     reader: &mut Watched<R>,
     terminal: &mut Terminal<W>,
@@ -165,13 +165,13 @@ fn rows_of<R: Read, W: Widths + Drop>(
     Ok(rows)
 }
 
-/// Feeds the whole input to a new terminal, looks once at its end, and writes the rows, each with
-/// a line feed after it, and flushes. The changes and the replies, which nobody reads, are
-/// forgotten. Width and height are from 1 to 2^32 - 1.
+/// Feeds the whole input to a new terminal, takes one look at the end of the input, writes the rows, each
+/// with a line feed after it, and flushes. The changes and the replies, which nobody reads, are dropped.
+/// Width and height are from 1 to 2^32 - 1.
 ///
-/// A read asks for at most 4,096 bytes. It ends at the first fault, also one of a read that was
+/// A read asks for at most 4,096 bytes. `show` ends at the first fault, also one of a read that was
 /// interrupted, with `Read` or `Write`; with `Terminal` where the terminal refuses; and with
-/// `TooLong` where the input hasn't ended after 2^48 reads. What it wrote is then the first bytes
+/// `TooLong` where the input hasn't ended after 2^48 reads. The bytes that it wrote are then a prefix
 /// of the rows.
 pub fn show<R: Read, T: Write, W: Widths + Drop>(
     alloc: Global,
@@ -200,18 +200,19 @@ pub fn show<R: Read, T: Write, W: Widths + Drop>(
     ensures end_first { IsErrOf result RunError.Write → IsAtEnd (R.remaining reader.new.inner) }
     ensures remaining { IsErr result → (IsErrOf result RunError.Write → ⊥)
         → Keeps (T.contents writer.old.inner) (T.contents writer.new.inner) }
-    // It flushes once, after the last write.
+    // `show` flushes once, after the last write.
     ensures flushes { OnOk result (writer.new.flushes ≡ counted writer.old.flushes) }
     ensures flushed { OnOk result (IsTrue writer.new.is_flushed) }
     ensures unflushed { IsErr result → (IsErrOf result RunError.Write → ⊥) → writer.new.flushes ≡ writer.old.flushes }
-    // After a fault of the reader or the writer it is not called again.
+    // After a fault of the reader or the writer the one that failed isn't called again.
     ensures ends_reads { reader.new.has_gone_on ≡ reader.old.has_gone_on }
     ensures ends_writes { writer.new.has_gone_on ≡ writer.old.has_gone_on }
     ensures failed { IsErrOf result (RunError.Terminal TerminalError.Failed) → ⊥ }
     ensures number { IsErrOf result (RunError.Terminal TerminalError.Number)
         → IfSome (R.remaining reader.old.inner)
         (λ input. 2 ^ 64 ≤ (log_of (W.width_of widths) width height (Piece input ∷ Look ∷ [])).log.number) }
-    // Where memory is refused, what was read last takes some, or all that was read has numbers, with its look.
+    // Where memory is refused, feeding the last read is refused it, or the number after all that was read, with the
+    // look, fits in 64 bits.
     ensures memory { IsErrOf result (RunError.Terminal TerminalError.Memory) → IfSome (R.remaining reader.old.inner)
         (λ input. IsRefusedMemory (W.width_of widths) (new_standing width height) one_look input
         (R.remaining reader.new.inner)) }

@@ -10,10 +10,10 @@ use thiserror::Error;
 /// Why `show` or `run` ended early.
 #[derive(Clone, Copy, Debug, PartialEq, Eq, Error)]
 pub enum RunError {
-    /// A read was a fault.
+    /// A read failed.
     #[error("cannot read")]
     Read,
-    /// A write or a flush was a fault, or a write took none of some bytes.
+    /// A write or a flush failed, or a write took none of at least one byte.
     #[error("cannot write")]
     Write,
     /// The terminal refused what was read.

@@ -25,7 +25,7 @@ use crate::terminal::Terminal;
 use cell_base::Widths;
 use terminal_table::laws::single_actions_are_their_rows;
 
-/// Each terminal that hasn't failed is at a view (`StandsAt`), with a lawful state and a run without controls;
+/// Each terminal that hasn't failed stands at a view (`StandsAt`), with a lawful state and a run without controls;
 /// and its screen, the saved pen, the run and each change that its log keeps have an encoding, so that viewers can
 /// get them.
 pub fn terminals_stand<W: Widths + Drop>(terminal: &Terminal<W>)
@@ -35,8 +35,8 @@ pub fn terminals_stand<W: Widths + Drop>(terminal: &Terminal<W>)
     terminal.stands();
 }
 
-/// Going on by one history and then by another is going on by both; and feeding two chunks is feeding
-/// their bytes joined. So between two looks only the joined bytes count.
+/// Going on by one history and then by another is going on by both joined; and feeding two chunks is
+/// feeding their bytes joined. So between two looks only the joined bytes count.
 pub fn histories_join<W: Widths>()
     ensures in_turn { (first : Terminal W) (between : Terminal W) (last : Terminal W) (one : History) (other : History)
         → GoesBy (λ w. W.width_of w) first between one → GoesBy (λ w. W.width_of w) between last other
@@ -44,24 +44,25 @@ pub fn histories_join<W: Widths>()
     ensures pieces { PiecesJoin (λ w. W.width_of w) }
 {}
 
-/// Where two terminals have gone on from one by the same history they show the same, have the same replies
-/// and log, hold the same run, and go on alike.
+/// Two terminals that have gone on from the same terminal by the same history show the same, have the same
+/// replies and log, hold the same run, and go on alike.
 pub fn histories_decide<W: Widths>()
     ensures { (before : Terminal W) (one : Terminal W) (other : Terminal W) (history : History) (view : View)
         → StandsAt before view → GoesBy (λ w. W.width_of w) before one history
         → GoesBy (λ w. W.width_of w) before other history → IsAlike one other }
 {}
 
-/// Taking the replies on the way changes nothing else. With the replies that were taken before those that it still
-/// has a terminal has gone by the whole history: its screen, its log and all its replies are what the history means.
+/// Taking the replies on the way changes nothing else. If the replies that were taken are put before those that the
+/// terminal still has, it has gone on by the whole history: its screen, its log and all its replies are those of the
+/// history.
 pub fn replies_are_separate<W: Widths>()
     ensures { (before : Terminal W) (now : Terminal W) (calls : List Call) → before.is_failed ≡ false
         → GoesThrough (λ w. W.width_of w) before calls now
         → GoesBy (λ w. W.width_of w) before (with_taken (taken_in calls) now) (history_in calls) }
 {}
 
-/// The text of one action that is writable by itself, fed to an idle terminal that then settles, is the
-/// action's row of the table: its step, and its changes; and it leaves the terminal idle.
+/// The text of one action that is writable by itself, fed to an idle terminal that then settles, has the step
+/// and the changes of the action's row of the table; and it leaves the terminal idle.
 pub fn single_actions<W: Widths>()
     ensures state { (before : Terminal W) (now : Terminal W) (view : View) (action : StreamAction) → IsIdle before
         → StandsAt before view → IsWritable (action ∷ []) → GoesBy (λ w. W.width_of w) before now (alone action)
@@ -76,23 +77,23 @@ pub fn single_actions<W: Widths>()
     single_actions_are_their_rows();
 }
 
-/// Where no run is held a look changes nothing: so `update` and `patch`, asked again where their bytes were refused
-/// memory, give what they would have given.
+/// Where no run is held a look changes nothing: so `update` and `patch`, called again after their bytes were refused
+/// memory, return what they would have returned.
 pub fn settled_terminals_stay<W: Widths>()
     ensures { (before : Terminal W) (now : Terminal W) (view : View) → StandsAt before view → before.run ≡ []
         → GoesBy (λ w. W.width_of w) before now (Look ∷ []) → IsAlike now before }
 {}
 
-/// Bytes that ask for nothing, as NUL and sequences that are ignored, are refused memory only where the parser takes
-/// some to read them, if no run is held.
+/// Bytes that ask for nothing, such as NUL and sequences that are ignored, are refused memory only where the parser
+/// takes some to read them, if no run is held.
 pub fn bytes_that_ask_for_nothing<W: Widths>()
     ensures { (before : Terminal W) (now : Terminal W) (view : View) (bytes : List ℕ)
         → StandsAt before view → before.run ≡ [] → AllByRecursion AsksNothing (items view.stream bytes)
         → NeedsMemory (λ w. W.width_of w) before bytes now → BytesTakeMemory view.stream bytes }
 {}
 
-/// The texts of cells are in runs of equal attributes, and placed cells in stretches of adjacent cells, each as long
-/// as possible; and there is exactly one such cut of each.
+/// `cell_runs` groups cells in runs of equal attributes, and `stretches` groups placed cells in stretches of adjacent
+/// cells, each as long as possible; and no other grouping does this.
 pub fn written_cells_have_one_cut()
     ensures runs { (cells : List CellContent) → AreRunsOf cells (cell_runs cells) }
     ensures one_run { (cells : List CellContent) (cut : List CellRun) → AreRunsOf cells cut → cut ≡ cell_runs cells }

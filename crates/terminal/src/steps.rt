@@ -12,7 +12,7 @@ use cell_base::Widths;
 use std::alloc::Global;
 use terminal_steps::TerminalError;
 
-/// What is done with a terminal.
+/// A call of a terminal.
 #[derive(Clone, Copy, Debug, PartialEq, Eq)]
 pub enum Step<'a> {
     /// `Terminal::feed` of these bytes.
@@ -43,7 +43,7 @@ fn take_step<W: Widths + Drop>(
 
 /// A new terminal of this many columns and rows, each from 1 to 2^32 - 1, after some steps in turn.
 ///
-/// Refuses as the first step that is refused does, and with `Memory` where the new terminal is.
+/// Refuses as the first step that is refused does, and with `Memory` where the new terminal is refused memory.
 pub fn play<W: Widths + Drop>(
     alloc: Global,
     steps: &[Step<'_>],

@@ -23,8 +23,8 @@ use terminal_viewers::update::update;
 
 /// A terminal that keeps the screen which an application's bytes lead to, and the replies that they ask for.
 ///
-/// A `feed`, `settle` or `resize` that is refused leaves one that has failed, and so may an `update` or a
-/// `patch`; `is_failed` tells.
+/// A `feed`, `settle` or `resize` that is refused leaves a terminal that has failed, and so may an `update` or a
+/// `patch`: `is_failed` says whether it has.
 #[derive(Drop)]
 pub struct Terminal<W: Widths> {
     alloc: Global,
@@ -69,12 +69,12 @@ impl<W: Widths + Drop> Terminal<W> {
         })
     }
 
-    /// Appends bytes to the stream, and does what is decided. A run of printed characters that nothing has
-    /// ended is held. Feeding nothing takes no memory.
+    /// Appends bytes to the stream, and does each action as soon as its bytes decide it. A run of printed
+    /// characters that nothing has ended is held. Feeding no bytes takes no memory.
     ///
     /// Refuses, in this order, with `Failed` on a failed terminal, and with `Number` or `Memory` as the
-    /// first change that is refused says; then the terminal has failed. `Memory` is answered only where the
-    /// bytes, or what they ask for, take some, and a change that has no number isn't refused with it.
+    /// first change that is refused does; then the terminal has failed. `Memory` is the error only where the
+    /// bytes, or the actions that they ask for, take some, and a change that has no number isn't refused with it.
     pub fn feed(&mut self, piece: &[u8]) -> Result<(), TerminalError>
         ensures done { OnOk result (GoesBy (λ w. W.width_of w) self.old self.new (Piece piece.now ∷ [])) }
         ensures failed { IsErrOf result TerminalError.Failed ↔ IsTrue self.old.is_failed }
@@ -121,7 +121,7 @@ impl<W: Widths + Drop> Terminal<W> {
     }
 
     /// Becomes `width` columns wide and `height` rows high, each from 1 to 2^32 - 1, as `Surface::resize` does; the
-    /// held run ends before. A saved cursor stays as it is, and a restore keeps it within the screen.
+    /// held run ends first. A saved cursor stays as it is, and DECRC restores it within the screen.
     /// Refuses as `feed` does.
     pub fn resize(&mut self, width: usize, height: usize) -> Result<(), TerminalError>
         requires size { IsScreenSize width height }
@@ -157,7 +157,7 @@ impl<W: Widths + Drop> Terminal<W> {
     /// screen. The position of a pending wrap is encoded as the last cell of its row once more.
     ///
     /// Refuses as `feed` does. Where the bytes are refused memory the terminal hasn't failed: it is as after
-    /// `settle`, and the same call, asked again, gives what it would have given.
+    /// `settle`, and the same call, made again, returns what it would have returned.
     pub fn update(&mut self, number: SequenceNo) -> Result<(SequenceNo, Vec<u8>), TerminalError>
         ensures settled { OnOk result (GoesBy (λ w. W.width_of w) self.old self.new (Look ∷ [])) }
         ensures answer { IfOk result (λ r. r.0 ≡ number_of self.new.surface) }
@@ -179,7 +179,7 @@ impl<W: Widths + Drop> Terminal<W> {
         Ok((self.current_number(), bytes))
     }
 
-    // The bytes that bring a viewer up to date that shows what another terminal shows.
+    // The bytes that bring a viewer up to date that shows the screen of another terminal.
     fn patch_from(&self, shown: &Terminal<W>) -> Result<Vec<u8>, AllocError>
         requires sound { self.now.is_failed ≡ false }
         requires shown { shown.now.is_failed ≡ false }
@@ -197,7 +197,7 @@ impl<W: Widths + Drop> Terminal<W> {
     /// screen. The position of a pending wrap is encoded as the last cell of its row once more.
     ///
     /// Refuses as `feed` does. Where the bytes are refused memory the terminal hasn't failed: it is as after
-    /// `settle`, and the same call, asked again, gives what it would have given.
+    /// `settle`, and the same call, made again, returns what it would have returned.
     pub fn patch(&mut self, shown: &Terminal<W>) -> Result<(SequenceNo, Vec<u8>), TerminalError>
         requires shown { shown.now.is_failed ≡ false }
         requires width { shown.now.surface.grid.width ≡ self.old.surface.grid.width }
@@ -248,23 +248,23 @@ impl<W: Widths + Drop> Terminal<W> {
         self.state.surface()
     }
 
-    /// How many changes led to the screen.
+    /// The log's number: how many changes led to the screen. A resize that drops logged changes counts as one.
     pub fn current_number(&self) -> SequenceNo
         ensures { result ≡ number_of self.now.surface }
     {
         self.state.surface().current_seqno()
     }
 
-    // A terminal that hasn't failed is at a view, and each of its changes has an encoding.
+    // A terminal that hasn't failed stands at a view, and each of its changes has an encoding.
     pub(crate) fn stands(&self)
         ensures stands { self.now.is_failed ≡ false → (view : View) × StandsAt self.now view × IsView view }
         ensures spelled { self.now.is_failed ≡ false → IsSpelled self.now }
     {
-        // For the clauses: with a field that is read the invariant is known.
+        // For the contract: the invariant of the terminal is known once a field is read.
         let _ = &self.parser;
     }
 
-    /// Whether it has failed, so that each call that can be refused answers `Failed` from then on.
+    /// Whether the terminal has failed: then each call that can be refused returns `Failed`.
     pub fn is_failed(&self) -> bool
         ensures { result ≡ self.now.is_failed }
     {

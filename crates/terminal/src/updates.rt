@@ -19,8 +19,8 @@ use std::alloc::Global;
 use std::io::{Read, Write};
 use terminal_steps::TerminalError;
 
-// Writes the update of a viewer that has seen the changes before a number, and forgets the changes and the
-// replies that nobody needs any more; returns the number that the viewer has seen then.
+// Writes the update for a viewer that has seen the changes before a number, forgets the changes and drops the
+// replies that nobody needs any more; returns the number that the viewer then holds.
 fn write_update<T: Write, W: Widths + Drop>(
     terminal: &mut Terminal<W>,
     writer: &mut Watched<T>,
@@ -54,8 +54,8 @@ fn write_update<T: Write, W: Widths + Drop>(
     Ok(next)
 }
 
-// From where on changes are due to a viewer that has seen those before a number. One at number 0 has seen nothing and
-// gets the whole screen.
+// The number from which on the log must keep changes for a viewer that has seen those before a number. A viewer at
+// number 0 has seen nothing and gets the whole screen: it needs none.
 fn due_from<W: Widths + Drop>(terminal: &Terminal<W>, number: SequenceNo) -> SequenceNo
     ensures { result ≡ due_from terminal.now number }
 {
@@ -127,15 +127,15 @@ fn write_updates<R: Read, T: Write, W: Widths + Drop>(
     Err(RunError::TooLong)
 }
 
-/// Feeds the input to a new terminal, and after each `every` bytes, at least 1, and once more at the end
-/// writes the update for the number that it got last, at first 0, and flushes. After each read the changes
-/// that no update needs any more are forgotten, and the replies dropped. Width and height are from 1 to
-/// 2^32 - 1.
+/// Feeds the input to a new terminal. After each `every` bytes, at least 1, and once more at the end it
+/// writes the update for the number of the update before it, at first 0, and flushes. After each read the
+/// changes that no update needs any more are forgotten, and the replies dropped. Width and height are from 1
+/// to 2^32 - 1.
 ///
-/// A read asks for at most 4,096 bytes, and at most for what is left to the next look. It ends at the first
+/// A read asks for at most 4,096 bytes, and at most for those up to the next look. `run` ends at the first
 /// fault, also one of a read that was interrupted, with `Read` or `Write`; with `Terminal` where the
-/// terminal refuses; and with `TooLong` where the input hasn't ended after 2^48 reads. What it wrote is then
-/// the first bytes of the updates of what was read.
+/// terminal refuses; and with `TooLong` where the input hasn't ended after 2^48 reads. The bytes that it wrote
+/// are then a prefix of the updates of the bytes that were read.
 pub fn run<R: Read, T: Write, W: Widths + Drop>(
     alloc: Global,
     reader: &mut Watched<R>,
@@ -157,7 +157,7 @@ pub fn run<R: Read, T: Write, W: Widths + Drop>(
         (IfSome (R.remaining reader.old.inner)
         (λ input. SendsPart (W.width_of widths) every (new_standing width height) input
         (R.remaining reader.new.inner) (T.contents writer.old.inner) (T.contents writer.new.inner))) }
-    // Where a read fails, the updates of the whole chunks read are written, and no more.
+    // Where a read fails, the updates of the full chunks that were read are written, and no more.
     ensures chunks { IsErrOf result RunError.Read → IfSome (R.remaining reader.old.inner)
         (λ input. SendsChunks (W.width_of widths) every (new_standing width height) input
         (R.remaining reader.new.inner) (T.contents writer.old.inner) (T.contents writer.new.inner)) }
@@ -168,15 +168,16 @@ pub fn run<R: Read, T: Write, W: Widths + Drop>(
     ensures number { IsErrOf result (RunError.Terminal TerminalError.Number)
         → IfSome (R.remaining reader.old.inner)
         (λ input. 2 ^ 64 ≤ number_after (W.width_of widths) every (new_standing width height) input) }
-    // Where memory is refused, what was read last takes some, or all that was read has numbers, with its looks.
+    // Where memory is refused, feeding the last read is refused it, or the number after all that was read, with its
+    // looks, fits in 64 bits.
     ensures memory { IsErrOf result (RunError.Terminal TerminalError.Memory) → IfSome (R.remaining reader.old.inner)
         (λ input. IsRefusedMemory (W.width_of widths) (new_standing width height) (all_looks every) input
         (R.remaining reader.new.inner)) }
-    // It flushes once after each update, and nothing is written after the last flush.
+    // `run` flushes once after each update, and nothing is written after the last flush.
     ensures flushes { OnOk result (IfSome (R.remaining reader.old.inner) (λ input.
         writer.new.flushes ≡ counted_by (update_count every input) writer.old.flushes)) }
     ensures flushed { OnOk result (IsTrue writer.new.is_flushed) }
-    // After a fault of the reader or the writer it is not called again.
+    // After a fault of the reader or the writer the one that failed isn't called again.
     ensures ends_reads { reader.new.has_gone_on ≡ reader.old.has_gone_on }
     ensures ends_writes { writer.new.has_gone_on ≡ writer.old.has_gone_on }
 {

@@ -42,9 +42,9 @@ use terminal_viewers::viewers::{
     updates_show_the_input, viewers_go_on_showing, viewers_read_updates,
 };
 
-/// An update for a number, fed to an idle terminal whose widths answer alike and which showed the terminal at
-/// that number, leaves one that shows the terminal's screen, with its saved cursor and its replies as they were, and
-/// idle.
+/// An update for a number, fed to an idle viewer that measures widths as the terminal does and shows the terminal at
+/// that number, leaves a viewer that shows the terminal's screen, with its own saved cursor and replies as they were,
+/// and that is idle.
 pub fn updates_are_shown<W: Widths + Drop>(terminal: &Terminal<W>, viewer: &Terminal<W>)
     ensures shown { (number : ℕ) (after : Terminal W)
         → CanReadSince (λ w. W.width_of w) terminal.now viewer.now number
@@ -61,9 +61,9 @@ pub fn updates_are_shown<W: Widths + Drop>(terminal: &Terminal<W>, viewer: &Term
     viewers_read_updates();
 }
 
-/// A patch from what another terminal shows, fed to an idle terminal whose widths answer alike, which shows that and
-/// has the terminal's size, leaves one that shows the terminal's screen, with its saved cursor and its replies as they
-/// were, and idle.
+/// A patch from the screen of a terminal `shown`, fed to an idle viewer that shows that screen, has the terminal's size
+/// and measures widths as it does, leaves a viewer that shows the terminal's screen, with its own saved cursor and
+/// replies as they were, and that is idle.
 pub fn patches_are_shown<W: Widths + Drop>(terminal: &Terminal<W>, viewer: &Terminal<W>)
     ensures shown { (shown : Terminal W) (after : Terminal W)
         → CanReadFrom (λ w. W.width_of w) terminal.now viewer.now shown
@@ -96,10 +96,10 @@ pub fn patches_print_the_fresh_cells<W: Widths + Drop>(terminal: &Terminal<W>, v
     terminal_viewers::patch_laws::patches_print_the_fresh_cells();
 }
 
-/// In every session that begins at a terminal, with new viewers of its size, updates, patches, other sizes and
-/// forgettings in any mix, a viewer that repeats the sizes and reads each answer to its end shows after it the
-/// screen of the one that answered it: the terminal, or another viewer. Where the viewers are answered one after
-/// another, each shows the terminal's screen.
+/// In every session that begins at a terminal, with new viewers of its size, updates, patches, resizes and forgotten
+/// changes in any mix, a viewer that repeats the resizes and reads each answer to its end shows then the screen of
+/// the terminal or viewer that answered it. Where the viewers are answered one after another, each shows the
+/// terminal's screen.
 pub fn sessions_show_the_screen<W: Widths + Drop>(terminal: &Terminal<W>)
     ensures answers { ViewersShow (λ w. W.width_of w) terminal.now }
     ensures rounds { (view : View) (count : ℕ) (turns : List Turn) (answers : List Answer)
@@ -114,8 +114,8 @@ pub fn sessions_show_the_screen<W: Widths + Drop>(terminal: &Terminal<W>)
 }
 
 /// A screen that shows a terminal at a number, not above the current one, goes on to show it at that number,
-/// whatever bytes the terminal reads, wherever it takes a look and whatever it forgets, if the screen takes on the
-/// same sizes. And a terminal's own screen shows it at its current number.
+/// whatever bytes the terminal reads, wherever it takes a look and whatever it forgets, if the screen repeats its
+/// resizes. And a terminal's own screen shows it at its current number.
 pub fn terminals_go_on_being_shown<W: Widths + Drop>(terminal: &Terminal<W>)
     ensures history { (shown : Screen) (number : ℕ) (now : Terminal W) (history : History)
         → terminal.now.is_failed ≡ false → AreSizes history → IsDisplay (display_on shown)
@@ -160,10 +160,10 @@ pub fn first_updates_tell_screens<W: Widths + Drop>(one: &Terminal<W>, other: &T
     viewers_read_updates();
 }
 
-/// An update has at most 2wh + 2h + 11 changes on a screen of w columns and h rows. For each of them at most
-/// 320 bytes encode it beside its text, its title, or its link's parameters and URI, and an update has no more
-/// bytes than these bounds add up to. Whoever reads it prints the texts of its changes, each once
-/// and in turn, and nothing else.
+/// An update has at most 2wh + 2h + 11 changes on a screen of w columns and h rows. At most 320 bytes encode
+/// each change besides its text, its title, or its link's parameters and URI; and the update is no longer than
+/// the sum of `encoded_size` of its changes. A terminal that reads the update prints the texts of its changes,
+/// each once and in turn, and nothing else.
 pub fn updates_are_small<W: Widths + Drop>(terminal: &Terminal<W>)
     ensures count { (number : ℕ) → terminal.now.is_failed ≡ false
         → length (changes_for terminal.now number)
@@ -189,8 +189,8 @@ pub fn updates_are_small<W: Widths + Drop>(terminal: &Terminal<W>)
     deltas_print_each_run_once();
 }
 
-/// What `render` answers for a change, fed as bytes to an idle terminal of that size, has the change's effect on
-/// its screen, with its saved cursor and its replies as they were, and leaves it idle.
+/// The actions that `render` returns for a change, fed as bytes to an idle terminal of that size, have the change's
+/// effect on its screen, leave its saved cursor and its replies as they were, and leave it idle.
 pub fn renderings_are_shown<W: Widths + Drop>(viewer: &Terminal<W>)
     ensures shown { (change : ChangeValue) (actions : List StreamAction) (after : Terminal W)
         → viewer.now.is_failed ≡ false → IsIdle viewer.now
@@ -213,7 +213,7 @@ pub fn renderings_are_shown<W: Widths + Drop>(viewer: &Terminal<W>)
     rendered_texts_have_the_effect();
 }
 
-/// A new terminal that reads the updates of an input, as `run` writes them, shows what a terminal shows that
+/// A new terminal that reads the updates of an input, as `run` writes them, shows the screen of a terminal that
 /// reads the input and takes a look after each chunk of `every` bytes and at the end; and it is idle.
 pub fn new_viewers_show_the_input<W: Widths>()
     ensures shown { (widths : W) (width : ℕ) (height : ℕ) (every : ℕ) (input : List ℕ) (new : Terminal W)

@@ -56,8 +56,8 @@ impl<T> Watched<T> {
         }
     }
 
-    /// Whether a read, a write or a flush was a fault. A write that takes none of some bytes is
-    /// one.
+    /// Whether a read, a write or a flush was a fault. A write that takes none of at least one byte
+    /// is one.
     pub fn failed(&self) -> bool
         ensures { result ≡ self.now.has_failed }
     {
@@ -145,7 +145,7 @@ impl<T: Write> Watched<T> {
         result
     }
 
-    /// Writes all the bytes, of which each write may take a part. The first fault ends it: then the error is
+    /// Writes all the bytes; each write may take a part of them. The first fault ends the call with the error
     /// `Write`.
     pub fn write_all(&mut self, bytes: &[u8]) -> Result<(), RunError>
         ensures ok { OnOk result (Appends (T.contents self.old.inner) (T.contents self.new.inner) bytes.now) }

@@ -10,8 +10,8 @@ ghost use Rattle.terminal_table.specs.Meaning.{new_view};
 ghost use Rattle.terminal_table.specs.Samples.{csi, osc, shown};
 ghost use Rattle.terminal_viewers.specs.Updates.{updates};
 
-/// Updates: of a blank screen, of a full row, of what follows it, and of two short rows. For a wrap that is pending the
-/// last cell is printed once more.
+/// Updates: of a blank screen, of a full row, of the letter after a full row, and of two short rows. For a wrap that is
+/// pending the last cell is printed once more.
 pub fn encoded_updates()
     ensures blank { update_after 4 3 (Look ∷ []) 0 ≡ painted [] }
     ensures full { update_after 2 1 (shown (codes "ab")) 0
@@ -22,7 +22,8 @@ pub fn encoded_updates()
         ++ csi (codes "2;2H")) }
 {}
 
-/// Patches: of a letter between two that stay, and of one after which a wrap is pending, so that it is printed again.
+/// Patches: of a letter between two letters that stay, and of a letter after which a wrap is pending, so that it is
+/// printed again.
 pub fn encoded_patches()
     ensures middle { patch_between 3 1 (shown (codes "abc")) (shown (codes "axc" ++ csi (codes "1;2H")))
         ≡ osc (codes "2;") ++ csi (codes "1;2H") ++ plain_pen ++ printed (codes "x")
@@ -32,7 +33,7 @@ pub fn encoded_patches()
         ++ csi (codes "1;3H") ++ plain_pen ++ printed (codes "c") ++ plain_pen ++ csi (codes "?25h") }
 {}
 
-/// What is written of three letters, with an update after each two.
+/// The updates of three letters, with an update after every two.
 pub fn written_updates()
     ensures { updates program_width 3 1 2 (codes "abc")
         ≡ painted (printed (codes "ab") ++ csi (codes "1;3H")) ++ printed (codes "c") }

@@ -1,4 +1,4 @@
--- The action that a borrowed one represents.
+-- The action that a borrowed action represents.
 use Rattle.std.specs.Prelude.{List, map, option_map}
 use Rattle.csi_codec.specs.Actions as codec
 use Rattle.escape_osc.specs.Command.{set_window_title}

@@ -1,4 +1,4 @@
--- What the laws say of the bytes of actions that encode changes: a stream carries them.
+-- What the laws say of the bytes of actions that encode changes: a stream that has the bytes has these actions.
 use Rattle.std.specs.Prelude.{◌≡◌, ℕ, ◌≤◌, ⊤, List, Some}
 use Rattle.std.specs.Str.{IsUtf8}
 use Rattle.cell_base.specs.declared.color.ColorAttribute.{ColorAttribute}
@@ -13,7 +13,7 @@ use Rattle.escape_stream.specs.StreamAction.{StreamAction}
 use Rattle.escape_stream.specs.StreamWritable.{IsWritable}
 use Rattle.terminal_render.specs.Rendering.{rendering}
 
--- a colour of bytes, as every colour of the code is
+-- a colour whose components and palette index are bytes, 0 to 255, as every colour of the code is
 abbrev pub IsColor : ColorAttribute → Type 0
 IsColor (attribute.TrueColorWithPaletteFallback c index) = (c.0 ≤ 255) × (c.1 ≤ 255) × (c.2 ≤ 255) × (c.3 ≤ 255)
 IsColor (attribute.TrueColorWithDefaultFallback c) = (c.0 ≤ 255) × (c.1 ≤ 255) × (c.2 ≤ 255) × (c.3 ≤ 255)
@@ -28,7 +28,7 @@ HasColor (one.Foreground color) = IsColor color
 HasColor (one.Background color) = IsColor color
 HasColor _ = ⊤
 
--- a change as the code has it: its colours are of bytes, and its texts are UTF-8
+-- a change as the code can hold it: the components of its colours are bytes, and its texts are UTF-8
 abbrev pub IsChange : ChangeValue → Type 0
 IsChange (Text text) = IsUtf8 text
 IsChange (Title text) = IsUtf8 text

@@ -1,5 +1,5 @@
--- What the laws say of actions that encode a change: they do to the screen what the change does, and nothing is held
--- them.
+-- What the laws say of actions that encode a change: they do to the screen what the change does, and no run is held
+-- after them.
 use Rattle.std.specs.Prelude.{◌≡◌, ℕ, ◌<◌, ◌^◌, List, [], ◌∷◌, ◌++◌, map, fold, Some}
 use Rattle.cell_base.specs.Screen.{height}
 use Rattle.screen_change.specs.ChangeValue.{ChangeValue}
@@ -14,11 +14,11 @@ use Rattle.terminal_table.specs.History.{Act, Piece}
 use Rattle.terminal_table.specs.Meaning.{View, event_done, after}
 use Rattle.terminal_render.specs.Rendering.{rendering}
 
--- the actions in turn, by the terminal's table
+-- the view after actions in turn, by the terminal's table
 abbrev pub actions_done : (List ℕ → ℕ) → View → List StreamAction → View
 actions_done width_of view actions = fold (event_done width_of) view (map Act actions)
 
--- the view on which a change had its effect: another screen, and all else as it was
+-- the view after a change had its effect: only the screen changes
 abbrev pub with_change : (List ℕ → ℕ) → View → Display → ChangeValue → View
 with_change width_of view display change =
     record view { state = record view.state { screen = (effect width_of display change).screen } }
@@ -31,8 +31,8 @@ pub record IsReady (view : View) : Type 0 where
   pub height : height view.state.screen < 2 ^ 32
   pub run : view.held ≡ []
 
--- the encoding of a change has its effect: on the screen of a terminal that is ready what the change has on any
--- display of that screen, and no other; the saved cursor and the replies stay, and no run is held
+-- the encoding of a change has on the screen of a ready terminal the effect that the change has on any display of that
+-- screen, and no other effect; the saved cursor and the replies stay, and no run is held
 abbrev pub RenderingsHaveTheEffect : Type 0
 RenderingsHaveTheEffect =
     (width_of : List ℕ → ℕ) (view : View) (display : Display) (change : ChangeValue) (actions : List StreamAction)
@@ -40,12 +40,12 @@ RenderingsHaveTheEffect =
     → rendering change view.state.screen.width (height view.state.screen) ≡ Some actions
     → actions_done width_of view actions ≡ with_change width_of view display change
 
--- a view whose stream goes on with a text
+-- a view that has read a text, which its stream goes on with
 abbrev pub with_text : View → List ℕ → View
 with_text view text = record view { stream = view.stream ++ text }
 
--- the bytes of the rendering have the effect, where they read back: a ready terminal with nothing unfinished that
--- reads them has the effect, and nothing is unfinished after them
+-- the bytes of an encoding that reads back have the change's effect on a ready terminal with nothing unfinished, and
+-- nothing is unfinished after them
 abbrev pub RenderedTextsHaveTheEffect : Type 0
 RenderedTextsHaveTheEffect =
     (width_of : List ℕ → ℕ) (view : View) (display : Display) (change : ChangeValue) (actions : List StreamAction)

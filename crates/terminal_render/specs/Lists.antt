@@ -1,4 +1,4 @@
--- The encodings of changes in turn.
+-- The encodings of lists of changes.
 use Rattle.std.specs.Prelude.{◌≡◌, ℕ, List, [], ◌∷◌, ◌++◌, Option, Some, option_map, option_and_then}
 use Rattle.cell_base.specs.Screen.{height}
 use Rattle.screen_change.specs.ChangeValue.{ChangeValue}
@@ -13,19 +13,19 @@ use Rattle.terminal_table.specs.Meaning.{View, after}
 use Rattle.terminal_render.specs.Effects.{actions_done, with_text, IsReady}
 use Rattle.terminal_render.specs.Rendering.{rendering}
 
--- the actions of the first change and then those of the rest; `None` where a change has none
+-- the actions of the first change and then those of the rest; `None` where a change has no encoding
 abbrev pub all_rendered : List ChangeValue → ℕ → ℕ → Option (List StreamAction)
 all_rendered [] width height = Some []
 all_rendered (change ∷ changes) width height =
     option_and_then (λ first. option_map (λ remaining. first ++ remaining) (all_rendered changes width height))
     (rendering change width height)
 
--- the view on which changes were replayed
+-- the view after changes were replayed
 abbrev pub with_changes : (List ℕ → ℕ) → View → Display → List ChangeValue → View
 with_changes width_of view display changes =
     record view { state = record view.state { screen = (replay width_of display changes).screen } }
 
--- they have the effect of the changes, replayed
+-- the encodings of changes in turn have the effect of the changes, replayed
 abbrev pub ListsHaveTheEffect : Type 0
 ListsHaveTheEffect =
     (width_of : List ℕ → ℕ) (view : View) (display : Display) (changes : List ChangeValue) (actions : List StreamAction)
@@ -33,7 +33,7 @@ ListsHaveTheEffect =
     → all_rendered changes view.state.screen.width (height view.state.screen) ≡ Some actions
     → actions_done width_of view actions ≡ with_changes width_of view display changes
 
--- the bytes of the renderings, where they read back, have the effects of the changes in turn
+-- the bytes of encodings that read back have the effects of the changes in turn
 abbrev pub ListTextsHaveTheEffect : Type 0
 ListTextsHaveTheEffect =
     (width_of : List ℕ → ℕ) (view : View) (display : Display) (changes : List ChangeValue) (actions : List StreamAction)
@@ -49,11 +49,11 @@ ListTextsLeaveIdle =
     → all_rendered changes view.state.screen.width (height view.state.screen) ≡ Some actions
     → IsIdle (after width_of view (Piece (stream_text actions) ∷ []))
 
--- two lists that read back do so one after the other
+-- two lists of actions that read back from their bytes also read back joined
 abbrev pub WritableListsJoin : Type 0
 WritableListsJoin = (xs ys : List StreamAction) → IsWritable xs → IsWritable ys → IsWritable (xs ++ ys)
 
--- one change more after some
+-- the encoding of one more change follows that of the changes before it
 abbrev pub RenderingsJoin : Type 0
 RenderingsJoin =
     (changes : List ChangeValue) (change : ChangeValue) (width height : ℕ) (first last : List StreamAction)

@@ -29,7 +29,7 @@ use Rattle.terminal_render.specs.Links.{is_carried}
 
 -- ---- one attribute
 
--- a colour as SGR sets it; one that falls back to the palette can't be encoded
+-- a colour as SGR sets it; a true colour with a palette fallback can't be encoded
 abbrev pub colour_setting : ColorAttribute → Option ColorSpec
 colour_setting (attribute.TrueColorWithPaletteFallback color index) = None
 colour_setting (attribute.TrueColorWithDefaultFallback color) = Some (spec.TrueColor color)
@@ -58,7 +58,7 @@ attribute_setting (change.Foreground color) = option_map sgr.Foreground (colour_
 attribute_setting (change.Background color) = option_map sgr.Background (colour_setting color)
 attribute_setting (change.Hyperlink link) = None
 
--- its SGR, or OSC 8
+-- the action of one attribute: SGR, or OSC 8 for the link
 unfoldable pub attribute_action : AttributeValue → Option StreamAction
 attribute_action (change.Hyperlink link) = linked link
 attribute_action value = option_map rendition (attribute_setting value)
@@ -88,7 +88,7 @@ abbrev pub unless_default : (ColorSpec → Sgr) → ColorSpec → Option Sgr
 unless_default setting spec.Default = None
 unless_default setting color = Some (setting color)
 
--- what is set of some attributes with these colours: foreground, background and underline colour
+-- the settings of attributes with a foreground, a background and an underline colour: `None` where one is plain
 abbrev pub settings : Attributes → ColorSpec → ColorSpec → ColorSpec → List (Option Sgr)
 settings a foreground background underline =
     unless_normal a.intensity ∷ unless_none a.underline ∷ unless_steady a.blink ∷ unless_off sgr.Italic a.italic
@@ -97,7 +97,7 @@ settings a foreground background underline =
     ∷ unless_off sgr.Overline a.overline ∷ unless_base_line a.vertical_align ∷ unless_default sgr.Foreground foreground
     ∷ unless_default sgr.Background background ∷ unless_default sgr.UnderlineColor underline ∷ []
 
--- none, or that one
+-- the SGR of a setting, if there is one
 abbrev pub set : Option Sgr → List StreamAction
 set None = []
 set (Some value) = rendition value ∷ []
@@ -110,8 +110,8 @@ abbrev pub is_output : SemanticType → Bool
 is_output Output = true
 is_output _ = false
 
--- whether attributes have what no action sets: a row that goes on, a type other than output, or a link that isn't
--- carried
+-- whether attributes have a value that no action sets: a row that wraps into the next, a semantic type other than
+-- output, or a link that OSC 8 doesn't carry
 abbrev pub lacks_encoding : Attributes → Bool
 lacks_encoding a = a.wrapped || not (is_output a.semantic_type) || not (is_carried a.hyperlink)
 
@@ -127,7 +127,7 @@ unfoldable pub pen_rendering : Attributes → Option (List StreamAction)
 pen_rendering a =
     if lacks_encoding a then None else option_map (λ values. pen_actions values a.hyperlink) (pen_settings a)
 
--- ---- clears: blanks of the pen's background (ED, EL), so a plain pen on the colour is set before them
+-- ---- clears: ED and EL leave blanks of the pen's background, so a plain pen with that background is set first
 
 abbrev pub plain_pen : ColorSpec → List StreamAction
 plain_pen color = rendition sgr.Reset ∷ link_action None ∷ set (unless_default sgr.Background color)

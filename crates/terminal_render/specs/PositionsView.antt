@@ -1,4 +1,4 @@
--- What a `Way` and a pair of moves of the code show.
+-- The way and the moves of the table that a `Way` and a pair of moves of the code represent.
 use Rattle.std.specs.Prelude.{⊤, ◌≤◌, List, [], ◌∷◌, ◌++◌, Option, Some, None}
 use Rattle.csi_codec.specs.declared.cursors.Cursor.{Cursor}
 use Rattle.csi_codec.specs.declared.cursors.Cursor.TheVariants as cursor
@@ -13,7 +13,7 @@ way_value (code.At coordinate) = to.At coordinate
 way_value (code.Back count) = to.Back count
 way_value (code.On count) = to.On count
 
--- positions are counted from 1
+-- an absolute line or column is counted from 1
 abbrev pub IsCounted : to.Way → Type 0
 IsCounted (to.At coordinate) = 1 ≤ coordinate
 IsCounted (to.Back count) = ⊤
@@ -31,6 +31,6 @@ abbrev pub listed : Option Move → List Cursor
 listed None = []
 listed (Some one) = move_cursor one ∷ []
 
--- the one, and then the other
+-- the first move and then the second, where there are moves
 abbrev pub both_listed : Option Move × Option Move → List Cursor
 both_listed moves = listed moves.0 ++ listed moves.1

@@ -28,7 +28,7 @@ edited value = csi (codec.edit value)
 abbrev pub moved : Cursor → StreamAction
 moved value = csi (codec.cursor value)
 
--- whether a region is of all rows; one that goes past the last row ends there
+-- whether a region has all rows; a region that goes past the last row ends there
 abbrev pub is_whole : ℕ → ℕ → ℕ → Bool
 is_whole height first size = first == 0 && nat_le height size
 
@@ -43,7 +43,7 @@ abbrev pub visibility_mode : Visibility → Mode
 visibility_mode Visible = mode.SetDecPrivateMode (private.Code dec.ShowCursor)
 visibility_mode Hidden = mode.ResetDecPrivateMode (private.Code dec.ShowCursor)
 
--- The actions that encode a change for a terminal of a width and a height; none where no actions do what the change
+-- The actions that encode a change for a terminal of a width and a height; `None` where no actions do what the change
 -- does.
 abbrev pub rendering : ChangeValue → ℕ → ℕ → Option (List StreamAction)
 rendering (Text text) width height = text_rendering text
@@ -67,6 +67,6 @@ rendering (CursorColor color) width height = None
 rendering (CursorShape shape) width height = None
 rendering (LineAttribute size) width height = None
 
--- the encoding, after other actions
+-- other actions and then the encoding, if there is one
 abbrev pub appended : List StreamAction → Option (List StreamAction) → Option (List StreamAction)
 appended before found = option_map (λ actions. before ++ actions) found

@@ -1,4 +1,4 @@
--- Bytes that are bytes_for, for worked examples.
+-- The bytes that encode a change, for worked examples.
 use Rattle.std.specs.Prelude.{ℕ, List, [], ◌∷◌, ◌++◌, false, Option, option_map}
 use Rattle.cell_base.specs.Link.{Link}
 use Rattle.screen_change.specs.ChangeValue.{ChangeValue}
@@ -16,7 +16,7 @@ csi bytes = 27 ∷ 91 ∷ bytes
 abbrev pub osc : List ℕ → List ℕ
 osc bytes = 27 ∷ 93 ∷ bytes ++ 27 ∷ 92 ∷ []
 
--- a reset, and the end of a link
+-- the bytes of a plain pen: SGR 0, and OSC 8 that ends a link
 abbrev pub plain_pen : List ℕ
 plain_pen = 27 ∷ 91 ∷ 48 ∷ 109 ∷ 27 ∷ 93 ∷ 56 ∷ 59 ∷ 59 ∷ 27 ∷ 92 ∷ []
 

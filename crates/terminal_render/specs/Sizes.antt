@@ -12,7 +12,7 @@ use Rattle.terminal_table.specs.Turns.{IsPrinted}
 use Rattle.terminal_render.specs.Carried.{IsChange}
 use Rattle.terminal_render.specs.Rendering.{rendering}
 
--- the bytes of a link's parameters and URI
+-- the number of bytes of a link's parameters and URI
 abbrev pub link_size : Option Link → ℕ
 link_size None = 0
 link_size (Some link) = length (params_text link.params) + length link.uri
@@ -21,21 +21,22 @@ abbrev pub attribute_size : AttributeValue → ℕ
 attribute_size (one.Hyperlink link) = link_size link
 attribute_size _ = 0
 
--- the bytes of the title or the link that a change carries
+-- the number of bytes of the title or the link that a change carries
 abbrev pub carried_size : ChangeValue → ℕ
 carried_size (Title text) = length text
 carried_size (Attribute change) = attribute_size change
 carried_size (AllAttributes attributes) = link_size attributes.hyperlink
 carried_size _ = 0
 
--- beside those at most 320 bytes encode a change that is no text
+-- at most 320 bytes besides `carried_size` encode a change that is no text
 abbrev pub RenderingsAreShort : Type 0
 RenderingsAreShort =
     (change : ChangeValue) (width height : ℕ) (actions : List StreamAction) → IsChange change
     → IsScreenSize width height → is_text change ≡ false → rendering change width height ≡ Some actions
     → length (stream_text actions) ≤ carried_size change + 320
 
--- for a text at most twice its bytes, and one byte more than it has where it holds no C0 control or DEL
+-- the bytes that encode a text are at most twice its length; one byte more than the text where it holds no C0 control
+-- or DEL
 abbrev pub TextsAreShort : Type 0
 TextsAreShort =
     (text : List ℕ) (width height : ℕ) (actions : List StreamAction) → rendering (Text text) width height ≡ Some actions

@@ -1,4 +1,4 @@
--- What a terminal keeps so that each of its changes has an encoding.
+-- Invariants of a terminal by which each of its changes has an encoding. Spelled: that has an encoding.
 use Rattle.std.specs.Prelude.{◌≡◌, ◌≢◌, ◌≤◌, ◌⊎◌, ⊤, ℕ, All, true, false, List, [], ◌∷◌, Option, Some, None}
 use Rattle.std.specs.Str.{IsUtf8}
 use Rattle.text_clusters.specs.Controls.{holds_c1}
@@ -26,15 +26,15 @@ use Rattle.terminal_table.specs.History.{Event, Act}
 use Rattle.terminal_table.specs.Meaning.{View}
 use Rattle.terminal_table.specs.Turns.{IsPrinted}
 
--- a colour of bytes that SGR sets: any but one that falls back to the palette
+-- a colour that SGR sets, with bytes for components: any except a true colour with a palette fallback
 abbrev pub IsSpelledColor : ColorAttribute → Type 0
 IsSpelledColor (attribute.TrueColorWithPaletteFallback color index) = ⊥
 IsSpelledColor (attribute.TrueColorWithDefaultFallback c) = (c.0 ≤ 255) × (c.1 ≤ 255) × (c.2 ≤ 255) × (c.3 ≤ 255)
 IsSpelledColor (attribute.PaletteIndex index) = index ≤ 255
 IsSpelledColor attribute.Default = ⊤
 
--- attributes that SGR and OSC 8 set: of no row that goes on, of semantic type output, with a link that OSC 8 carries
--- and colours that SGR sets
+-- attributes that SGR and OSC 8 set: not `wrapped`, of semantic type output, with a link that OSC 8 carries and colours
+-- that SGR sets
 pub record IsSpelledPen (pen : Attributes) : Type 0 where
   pub unwrapped : pen.wrapped ≡ false
   pub output : pen.semantic_type ≡ Output
@@ -65,13 +65,13 @@ IsSpelledRow (Narrow text attributes ∷ row) = IsSpelledRun text × IsSpelledPe
 IsSpelledRow (LeftHalf text attributes ∷ row) = IsSpelledRun text × IsSpelledPen attributes × IsSpelledRow row
 IsSpelledRow (RightHalf attributes ∷ row) = IsSpelledPen attributes × IsSpelledRow row
 
--- each row, the pen and the title
+-- each row, the pen and the title are spelled
 pub record IsSpelledScreen (screen : Screen) : Type 0 where
   pub rows : All IsSpelledRow screen.rows
   pub pen : IsSpelledPen screen.pen
   pub title : IsSpelledTitle screen.title
 
--- the pen of a saved cursor, if one was saved
+-- the pen of the saved cursor is spelled, if a cursor was saved
 abbrev pub IsSpelledSaved : Option SavedCursor → Type 0
 IsSpelledSaved None = ⊤
 IsSpelledSaved (Some cursor) = IsSpelledPen cursor.pen
@@ -84,17 +84,17 @@ pub record IsSpelledView (view : View) : Type 0 where
   pub state : IsSpelledState view.state
   pub held : IsSpelledText view.held
 
--- ---- what comes
+-- ---- events
 
--- an SGR that can be written, so that its colour is of bytes; a link that OSC 8 carries; a spelled title; any other
--- control function
+-- an SGR that can be written, so that the components of its colour are bytes; a link that OSC 8 carries; a spelled
+-- title; any other control function
 abbrev pub IsSpelledFunction : ControlFunction → Type 0
 IsSpelledFunction (table.Rendition value) = IsWritableSgr value
 IsSpelledFunction (table.Hyperlink link) = is_carried link ≡ true
 IsSpelledFunction (table.Title text) = IsSpelledTitle text
 IsSpelledFunction _ = ⊤
 
--- the control function that an action asks for, if it asks for one
+-- the control function that an action asks for is spelled, if it asks for one
 abbrev pub IsSpelledRequest : Option ControlFunction → Type 0
 IsSpelledRequest None = ⊤
 IsSpelledRequest (Some function) = IsSpelledFunction function
@@ -116,7 +116,7 @@ IsSpelledValue (one.Background color) = IsSpelledColor color
 IsSpelledValue (one.Hyperlink link) = is_carried link ≡ true
 IsSpelledValue _ = ⊤
 
--- what a change brings to a display: its text, attributes, colour or title
+-- the text, attributes, colour or title that a change sets on a display are spelled
 abbrev pub IsSpelledChange : ChangeValue → Type 0
 IsSpelledChange (Attribute value) = IsSpelledValue value
 IsSpelledChange (AllAttributes attributes) = IsSpelledPen attributes
@@ -131,13 +131,13 @@ IsSpelledChange _ = ⊤
 abbrev pub IsLineEnd : List ℕ → Type 0
 IsLineEnd text = (text ≡ 13 ∷ []) ⊎ (text ≡ 10 ∷ []) ⊎ (text ≡ 13 ∷ 10 ∷ [])
 
--- a text without C0 controls and DEL, or the end of a line; any other change
+-- a text without C0 controls and DEL, or a text that is a line end; any other change
 abbrev pub IsLinePart : ChangeValue → Type 0
 IsLinePart (Text text) = IsPrinted text ⊎ IsLineEnd text
 IsLinePart _ = ⊤
 
--- a change of the code (colours of bytes, texts in UTF-8), a line part if it is a text, that has a rendering for a
--- terminal of a width and a height
+-- a change that the code can hold (bytes for colour components, texts in UTF-8), a line part if it is a text, that has
+-- an encoding for a terminal of a width and a height
 pub record HasEncoding (width height : ℕ) (change : ChangeValue) : Type 0 where
   pub of_code : IsChange change
   pub part : IsLinePart change
@@ -147,13 +147,13 @@ abbrev pub HaveEncodings : ℕ → ℕ → List ChangeValue → Type 0
 HaveEncodings width height [] = ⊤
 HaveEncodings width height (change ∷ changes) = HasEncoding width height change × HaveEncodings width height changes
 
--- the position of a pending wrap, or a shape of the cursor
+-- a change that is left out of updates: the position of a pending wrap, or a shape of the cursor
 abbrev pub IsLeftOut : Screen → ChangeValue → Type 0
 IsLeftOut screen change =
     ((screen.column ≡ screen.width) × (change ≡ CursorPosition (Absolute screen.column) (Absolute screen.row)))
     ⊎ ((shape : Shape) × (change ≡ CursorShape shape))
 
--- each of the other changes has an encoding at the screen's size
+-- each change that isn't left out has an encoding at the screen's size
 abbrev pub HaveOtherEncodings : Screen → List ChangeValue → Type 0
 HaveOtherEncodings screen [] = ⊤
 HaveOtherEncodings screen (change ∷ changes) =

@@ -19,7 +19,7 @@ use std::alloc::{AllocError, Global};
 use std::marker::Model;
 use std::rc::Rc;
 
-/// Actions in the order in which they are written, lent from the changes that they encode.
+/// Actions in the order in which they are written, borrowed from the changes that they encode.
 #[derive(Drop)]
 pub(crate) struct Actions<'a> {
     list: Vec<BorrowedAction<'a>>,
@@ -37,7 +37,7 @@ impl<'a> Model for Actions<'a> {
 }
 
 impl<'a> Actions<'a> {
-    /// None yet.
+    /// No actions.
     pub(crate) fn new(alloc: Global) -> Actions<'a>
         ensures { result ≡ [] }
     {
@@ -46,14 +46,14 @@ impl<'a> Actions<'a> {
         }
     }
 
-    /// None any more.
+    /// Drops all actions.
     pub(crate) fn clear(&mut self)
         ensures { self.new ≡ [] }
     {
         self.list.clear();
     }
 
-    /// An SGR.
+    /// Appends an SGR.
     pub(crate) fn push_sgr(&mut self, value: Sgr) -> Result<(), AllocError>
         ensures { OnOk result (self.new ≡ self.old ++ csi (codec.sgr value) ∷ []) }
     {
@@ -61,7 +61,7 @@ impl<'a> Actions<'a> {
         Ok(())
     }
 
-    /// An SGR, if there is one.
+    /// Appends an SGR, if there is one.
     pub(crate) fn push_setting(&mut self, value: Option<Sgr>) -> Result<(), AllocError>
         ensures { OnOk result (self.new ≡ self.old ++ set value) }
     {
@@ -71,7 +71,7 @@ impl<'a> Actions<'a> {
         }
     }
 
-    /// A move of the cursor.
+    /// Appends a move of the cursor.
     pub(crate) fn push_move(&mut self, step: Move) -> Result<(), AllocError>
         ensures { OnOk result (self.new ≡ self.old ++ csi (codec.cursor (move_cursor step)) ∷ []) }
     {
@@ -79,7 +79,7 @@ impl<'a> Actions<'a> {
         Ok(())
     }
 
-    /// An edit.
+    /// Appends an edit (ED, EL, SU or SD).
     pub(crate) fn push_edit(&mut self, edit: Edit) -> Result<(), AllocError>
         ensures { OnOk result (self.new ≡ self.old ++ csi (codec.edit edit) ∷ []) }
     {
@@ -87,7 +87,7 @@ impl<'a> Actions<'a> {
         Ok(())
     }
 
-    /// A mode.
+    /// Appends a mode that is set or reset.
     pub(crate) fn push_mode(&mut self, mode: Mode) -> Result<(), AllocError>
         ensures { OnOk result (self.new ≡ self.old ++ csi (codec.mode mode) ∷ []) }
     {
@@ -95,7 +95,7 @@ impl<'a> Actions<'a> {
         Ok(())
     }
 
-    /// A control.
+    /// Appends a control character.
     pub(crate) fn push_control(&mut self, code: ControlCode) -> Result<(), AllocError>
         ensures { OnOk result (self.new ≡ self.old ++ control (control_number code) ∷ []) }
     {
@@ -103,7 +103,7 @@ impl<'a> Actions<'a> {
         Ok(())
     }
 
-    /// A text that is printed, and NUL, which ends the run.
+    /// Appends a text that is printed, and NUL, which ends the run.
     pub(crate) fn push_run(&mut self, text: &'a str) -> Result<(), AllocError>
         ensures { OnOk result (self.new ≡ self.old ++ run_actions text.now) }
     {
@@ -111,7 +111,7 @@ impl<'a> Actions<'a> {
         self.push_control(ControlCode::Null)
     }
 
-    /// OSC 2.
+    /// Appends OSC 2.
     pub(crate) fn push_title(&mut self, title: &'a str) -> Result<(), AllocError>
         ensures { OnOk result (self.new ≡ self.old ++ command (set_window_title title.now) ∷ []) }
     {
@@ -119,7 +119,7 @@ impl<'a> Actions<'a> {
         Ok(())
     }
 
-    /// OSC 8: a link, or the end of one.
+    /// Appends OSC 8: a link, or the end of one.
     pub(crate) fn push_link(&mut self, link: Option<&'a Rc<Hyperlink>>) -> Result<(), AllocError>
         ensures { OnOk result (self.new ≡ self.old ++ link_action (option_map (λ l. l.now.value) link.entry) ∷ []) }
     {
@@ -127,7 +127,7 @@ impl<'a> Actions<'a> {
         Ok(())
     }
 
-    /// The actions, with copies of the texts that they lend.
+    /// The actions, with copies of the texts that they borrow.
     pub(crate) fn to_vec(&self, alloc: Global) -> Result<Vec<Action>, AllocError>
         ensures { IfOk result (λ actions. map value_of actions.items ≡ self.now) }
     {

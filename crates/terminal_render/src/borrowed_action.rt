@@ -23,11 +23,11 @@ pub(crate) enum BorrowedAction<'a> {
     Setting(Sgr),
     /// A move of the cursor.
     Move(Move),
-    /// An edit.
+    /// An edit: ED, EL, SU or SD.
     Edit(Edit),
     /// A mode that is set or reset.
     Mode(Mode),
-    /// A control.
+    /// A control character.
     Control(ControlCode),
     /// Characters that are printed.
     Text(&'a str),
@@ -37,7 +37,7 @@ pub(crate) enum BorrowedAction<'a> {
     Link(Option<&'a Rc<Hyperlink>>),
 }
 
-// OSC 2.
+// OSC 2 as a command, with a copy of the title.
 fn title_command(alloc: Global, title: &str) -> Result<OperatingSystemCommand, AllocError>
     ensures { IfOk result (λ c. command_of c ≡ set_window_title title.now) }
 {
@@ -45,7 +45,7 @@ fn title_command(alloc: Global, title: &str) -> Result<OperatingSystemCommand, A
     Ok(OperatingSystemCommand::SetWindowTitle(title))
 }
 
-// OSC 8.
+// OSC 8 as a command: a link, or the end of one.
 fn link_command(link: Option<&Rc<Hyperlink>>) -> Result<OperatingSystemCommand, AllocError>
     ensures { IfOk result (λ c. command_of c ≡ set_hyperlink (option_map (λ l. l.now.value) link.entry)) }
 {
@@ -63,7 +63,7 @@ fn command_action(alloc: Global, command: OperatingSystemCommand) -> Result<Acti
     Ok(Action::OperatingSystemCommand(Box::new(alloc, command)?))
 }
 
-// The bytes of OSC 2.
+// Appends the bytes of OSC 2.
 fn append_title(title: &str, bytes: &mut Vec<u8>) -> Result<(), AllocError>
     ensures ok { OnOk result (bytes.new.items ≡ bytes.old.items ++ text_of (set_window_title title.now)) }
     ensures prefix { take (length bytes.old.items) bytes.new.items ≡ bytes.old.items }
@@ -73,7 +73,7 @@ fn append_title(title: &str, bytes: &mut Vec<u8>) -> Result<(), AllocError>
     bytes.extend_from_slice(b"\x1b\\")
 }
 
-// The bytes of OSC 8 with a link.
+// Appends the bytes of OSC 8 with a link.
 #[inline(never)]
 fn append_linked(link: &Rc<Hyperlink>, bytes: &mut Vec<u8>) -> Result<(), AllocError>
     ensures ok { OnOk result (bytes.new.items ≡ bytes.old.items ++ text_of (set_hyperlink (Some link.now.value))) }
@@ -83,7 +83,7 @@ fn append_linked(link: &Rc<Hyperlink>, bytes: &mut Vec<u8>) -> Result<(), AllocE
     command.append_bytes_to(bytes)
 }
 
-// The bytes of OSC 8. The end of a link, which each pen without one sends, is appended at once.
+// Appends the bytes of OSC 8. Every pen without a link encodes the end of a link, so that is a constant.
 fn append_link(link: Option<&Rc<Hyperlink>>, bytes: &mut Vec<u8>) -> Result<(), AllocError>
     ensures ok { OnOk result
         (bytes.new.items ≡ bytes.old.items ++ text_of (set_hyperlink (option_map (λ l. l.now.value) link.entry))) }
@@ -96,7 +96,7 @@ fn append_link(link: Option<&Rc<Hyperlink>>, bytes: &mut Vec<u8>) -> Result<(), 
 }
 
 impl<'a> BorrowedAction<'a> {
-    /// The action by itself.
+    /// The action as one that owns its texts.
     pub(crate) fn to_action(self, alloc: Global) -> Result<Action, AllocError>
         ensures { IfOk result (λ action. value_of action ≡ borrowed_value self.entry) }
     {

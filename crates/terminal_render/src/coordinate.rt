@@ -9,7 +9,7 @@ pub(crate) struct Coordinate {
 }
 
 impl Coordinate {
-    /// The position that counts so from 1.
+    /// The line or column with this number, counted from 1.
     pub(crate) fn new(number: u32) -> Coordinate
         requires { 1 ≤ number }
         ensures { result.number ≡ number }

@@ -16,7 +16,7 @@ use csi_codec::{DecPrivateMode, DecPrivateModeCode, Edit, EraseInDisplay, EraseI
 use screen_change::Change;
 use std::alloc::{AllocError, Global};
 
-// At most the height.
+// A count of rows, at most the height.
 fn row_count(height: usize, count: usize) -> u32
     requires { height < 2 ^ 32 }
     ensures { result ≡ min count height }
@@ -24,7 +24,7 @@ fn row_count(height: usize, count: usize) -> u32
     count.min(height) as u32
 }
 
-// A scroll of all rows; none by 0.
+// Appends a scroll of all rows; nothing where the count is 0.
 fn push_scroll(actions: &mut Actions<'_>, count: usize, scroll: Edit) -> Result<(), AllocError>
     ensures { OnOk result (actions.new ≡ actions.old ++ (if count == 0 then [] else edited scroll ∷ [])) }
 {
@@ -34,7 +34,7 @@ fn push_scroll(actions: &mut Actions<'_>, count: usize, scroll: Edit) -> Result<
     actions.push_edit(scroll)
 }
 
-// DECTCEM.
+// DECTCEM: set for a visible cursor, reset for a hidden one.
 fn visibility_mode(visibility: CursorVisibility) -> Mode
     ensures { result ≡ visibility_mode visibility }
 {
@@ -48,7 +48,7 @@ fn visibility_mode(visibility: CursorVisibility) -> Mode
     }
 }
 
-/// The encoding of a change that has one.
+/// Appends the encoding of a change that has one.
 #[tactic(auto, unfolding(crate::specs::Rendering::scroll_rendering, crate::specs::Texts::text_rendering))]
 pub(crate) fn push_change<'a>(
     actions: &mut Actions<'a>,
@@ -91,8 +91,8 @@ pub(crate) fn push_change<'a>(
 }
 
 /// Appends the encodings of changes in turn, each of which has one: the bytes that `encode` writes of the actions
-/// that `render` answers for each. They take no list of their own. Want of memory is the only refusal;
-/// `bytes` stay as they were then.
+/// that `render` answers for each. No list of all actions is made. Want of memory is the only refusal; then
+/// `bytes` stay as they were.
 pub fn append_encodings(
     alloc: Global,
     changes: &[Change],

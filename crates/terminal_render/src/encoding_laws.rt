@@ -25,15 +25,15 @@ ghost use Rattle.terminal_render.specs.Spelling.{IsSpelledPen, IsSpelledScreen, 
 use crate::laws::{lists_join, renderings_are_writable};
 use escape_framing::laws::one_cut;
 
-/// Attributes whose colours are of bytes have an encoding exactly where SGR and OSC 8 set them: of no row
-/// that goes on, of semantic type output, with a link that is carried, and with colours that don't fall
-/// back to the palette.
+/// Attributes whose colours have bytes for components have an encoding exactly where SGR and OSC 8 set them:
+/// not `wrapped`, of semantic type output, with a link that OSC 8 carries, and with no true colour that has a
+/// palette fallback.
 pub fn spelled_pens_are_rendered()
     ensures { (pen : Attributes) → HaveColors pen → (IsSpelledPen pen ↔ (pen_rendering pen ≢ None)) }
 {}
 
-/// The cells, the pen and the title of a new display have an encoding, and a display keeps this under changes
-/// that have it themselves, and under other sizes.
+/// The cells, the pen and the title of a new display have an encoding, and so have they after changes that
+/// have an encoding themselves, and after a new size.
 pub fn displays_stay_spelled()
     ensures new { (width : ℕ) (height : ℕ) → IsSpelledScreen (new_display width height).screen }
     ensures effect { (width_of : List ℕ → ℕ) (display : Display) (change : ChangeValue) → IsDisplay display
@@ -43,8 +43,8 @@ pub fn displays_stay_spelled()
         → IsSpelledScreen (resized width height display).screen }
 {}
 
-/// The cells, pens and titles of a new terminal, and the run that it holds, have an encoding, and a terminal
-/// keeps this under events that have it themselves.
+/// The cells, pens and titles of a new terminal, and the run that it holds, have an encoding, and so have they
+/// after events that have an encoding themselves.
 pub fn views_stay_spelled()
     ensures new { (width : ℕ) (height : ℕ) → IsSpelledView (new_view width height) }
     ensures event { (width_of : List ℕ → ℕ) (view : View) (event : Event) → IsView view → IsEvent event
@@ -59,15 +59,14 @@ pub fn logged_changes_have_encodings()
         (changes_in (event_logged width_of view event)) }
 {}
 
-/// What a stream prints holds no U+0080 to U+009F, and the SGRs, links and titles that it asks for have an
-/// encoding.
+/// A stream prints no U+0080 to U+009F, and the SGRs, links and titles that it asks for have an encoding.
 pub fn events_are_spelled()
     ensures { (stream : List ℕ) (history : History) → AreSpelledEvents (events stream history) }
 {
     one_cut();
 }
 
-/// So the cells, pens and titles of a terminal, and the run that it holds, keep an encoding whatever comes.
+/// So the cells, pens and titles of a terminal, and the run that it holds, have an encoding after any history.
 pub fn histories_stay_spelled()
     ensures { (width_of : List ℕ → ℕ) (view : View) (history : History) → IsView view → AreSizes history
         → IsSpelledView view → IsSpelledView (after width_of view history) }
@@ -75,8 +74,8 @@ pub fn histories_stay_spelled()
     one_cut();
 }
 
-/// Each change that a log keeps has an encoding at the present size of the screen, whatever comes, and so
-/// has each that is due.
+/// Each change that a log keeps has an encoding at the present size of the screen, after any history, and so
+/// has each change that is due.
 pub fn kept_changes_have_encodings()
     ensures event { (width_of : List ℕ → ℕ) (view : View) (event : Event) (log : Sized) → IsView view
         → IsSpelledView view → IsSpelledEvent event
@@ -95,13 +94,14 @@ pub fn kept_changes_have_encodings()
     one_cut();
 }
 
-/// So changes that have encodings have a rendering in turn.
+/// So a list of changes that have encodings has an encoding.
 pub fn spelled_changes_are_rendered()
     ensures { (width : ℕ) (height : ℕ) (changes : List ChangeValue) → HaveEncodings width height changes
         → all_rendered changes width height ≢ None }
 {}
 
-/// And their encodings for a terminal of less than 2^32 columns and rows read back from their bytes.
+/// The encoding of a list of such changes for a terminal of less than 2^32 columns and rows reads back from
+/// its bytes.
 pub fn spelled_changes_are_writable()
     ensures { (width : ℕ) (height : ℕ) (changes : List ChangeValue) (actions : List StreamAction)
         → IsScreenSize width height → HaveEncodings width height changes

@@ -8,7 +8,7 @@ use thiserror::Error;
 /// Why a change was not rendered.
 #[derive(Clone, Copy, Debug, PartialEq, Eq, Error)]
 pub enum RenderError {
-    /// No actions have the effect of the change.
+    /// The change has no encoding: no actions have its effect.
     #[error("the change has no spelling")]
     NoSpelling,
     /// There was no memory.

@@ -32,7 +32,7 @@ pub fn texts()
     ensures title_with_c1 { bytes_for 4 1 (Title (0xC2 ∷ 0x9C ∷ [])) ≡ None }
 {}
 
-/// Clears set a plain pen on their colour first.
+/// Clears first set a plain pen whose background is their colour.
 pub fn clears()
     ensures screen { bytes_for 4 3 (ClearScreen color.Default)
         ≡ Some (plain_pen ++ csi (codes "2J") ++ csi (codes "1;1H")) }
@@ -43,7 +43,8 @@ pub fn clears()
         (ClearScreen (color.TrueColorWithPaletteFallback (record { 0 = 1; 1 = 2; 2 = 3; 3 = 255 }) 1)) ≡ None }
 {}
 
-/// All rows scroll, or none: a region past the last row ends there, and a smaller one can't be encoded.
+/// Scrolls of all rows have an encoding: a region past the last row ends there, and a smaller region can't be
+/// encoded.
 pub fn scrolls()
     ensures none { bytes_for 4 3 (ScrollRegionUp 0 3 0) ≡ Some [] }
     ensures some { bytes_for 4 3 (ScrollRegionUp 0 3 2) ≡ Some (csi (codes "2S")) }
@@ -55,8 +56,8 @@ pub fn scrolls()
     ensures past { bytes_for 4 3 (ScrollRegionUp 3 1 0) ≡ None }
 {}
 
-/// Positions: a column at or past the width, a way back in the row, and one that moves nothing have no
-/// encoding.
+/// Positions: a column at or past the width, a relative move to the left, and a position that moves nothing
+/// have no encoding.
 pub fn positions()
     ensures next_row { bytes_for 4 3 (CursorPosition (Absolute 0) (Relative (pos 1)))
         ≡ Some (csi (codes "B") ++ csi (codes "1G")) }

@@ -1,5 +1,5 @@
 //! Laws of encodings: they have the change's effect and read back, and how long they are. Each is the contract of a
-//! function that does nothing but name the laws below.
+//! function that does nothing but name the laws that its proof uses.
 ghost use Rattle.terminal_render.specs.Carried.{RenderingsAreWritable};
 ghost use Rattle.terminal_render.specs.Lists.{ListTextsHaveTheEffect, ListTextsLeaveIdle, ListsHaveTheEffect};
 ghost use Rattle.terminal_render.specs.Lists.{RenderingsJoin, WritableListsJoin};
@@ -12,14 +12,14 @@ use escape_framing::laws::idle_streams;
 use escape_osc::laws::text_lengths;
 use escape_stream::encoding_laws::writable_lists_read_on;
 
-/// The encoding of a change has its effect: the terminal's table makes of a screen what the change
-/// makes of it, and nothing is held. The saved cursor and the replies stay.
+/// The encoding of a change has its effect: by the terminal's table it does to a screen what the change
+/// does to it, and no run is held. The saved cursor and the replies stay.
 pub fn renderings_have_the_effect()
     ensures { RenderingsHaveTheEffect }
 {}
 
-/// The encoding of a change reads back from its bytes: so a parser that reads what `encode` writes of it
-/// hands out these actions.
+/// The encoding of a change reads back from its bytes: so a parser that reads the bytes that `encode` writes of
+/// it hands out these actions.
 pub fn renderings_are_writable()
     ensures { RenderingsAreWritable }
 {
@@ -37,8 +37,9 @@ pub fn rendered_texts_have_the_effect()
     writable_lists_read_on();
 }
 
-/// At most 320 bytes encode a change beside its text, its title and its link's parameters and URI. For
-/// a text they are at most twice its bytes, and one more than it has where it holds no C0 control or DEL.
+/// At most 320 bytes encode a change besides its text, its title and its link's parameters and URI. A text
+/// takes at most twice its length in bytes, and one byte more than its length where it holds no C0 control or
+/// DEL.
 pub fn renderings_are_short()
     ensures remaining { RenderingsAreShort }
     ensures texts { TextsAreShort }
@@ -59,8 +60,8 @@ pub fn lists_have_the_effect()
     writable_lists_read_on();
 }
 
-/// The encoding of one change more follows the encodings of those before it; and lists that read
-/// back do so one after the other.
+/// The encoding of one more change follows the encodings of those before it; and two lists of actions that
+/// read back from their bytes also read back joined.
 pub fn lists_join()
     ensures renderings { RenderingsJoin }
     ensures writable { WritableListsJoin }

@@ -24,7 +24,7 @@ pub(crate) fn is_plain_text(text: &str) -> bool
     !holds_control(text) && !holds_c1(text.as_bytes())
 }
 
-// Whether keys and values hold none.
+// Whether keys and values hold no control of any kind.
 fn have_plain_texts(params: &BTreeMap<String, String>) -> bool
     ensures { result ≡ list_all is_plain_param (texts_of params.now.entries) }
 {
@@ -36,28 +36,28 @@ fn have_plain_texts(params: &BTreeMap<String, String>) -> bool
     true
 }
 
-// Whether a key and a value hold none.
+// Whether a key and a value hold no control of any kind.
 fn is_plain_param(key: &str, value: &str) -> bool
     ensures { result ≡ is_plain_param (key.now, value.now) }
 {
     is_plain_text(key) && is_plain_text(value)
 }
 
-// Whether the texts of a link hold none.
+// Whether the texts of a link hold no control of any kind.
 fn has_plain_texts(link: &Hyperlink) -> bool
     ensures { result ≡ has_plain_texts link.now }
 {
     have_plain_texts(link.params()) && is_plain_text(link.uri())
 }
 
-// Whether the link's text gives it.
+// Whether OSC 8 with the link's text is read as the link.
 fn reads_back(link: &Hyperlink) -> bool
     ensures { result ≡ reads_back link.now }
 {
     link.reads_back()
 }
 
-/// Whether OSC 8 carries a link; the end of one it always does.
+/// Whether OSC 8 carries a link; it always carries the end of a link.
 #[tactic(auto, unfolding(crate::specs::Links::is_carried))]
 pub(crate) fn is_carried(link: Option<&Rc<Hyperlink>>) -> bool
     ensures { result ≡ is_carried (option_map (λ l. l.now.value) link.entry) }

@@ -17,7 +17,7 @@ pub(crate) enum Move {
 }
 
 impl Move {
-    /// CUP, CHA, VPA, CUU, CUD or CUF.
+    /// The move's control sequence: CUP, CHA, VPA, CUU, CUD or CUF.
     pub(crate) fn cursor(self) -> Cursor
         ensures { result ≡ move_cursor self }
     {

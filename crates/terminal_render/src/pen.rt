@@ -25,7 +25,7 @@ use csi_codec::{Edit, EraseInDisplay, Sgr};
 use std::alloc::AllocError;
 use std::rc::Rc;
 
-/// Whether SGR sets a colour: any but one that falls back to the palette.
+/// Whether SGR sets a colour: any except a true colour with a palette fallback.
 pub(crate) fn color_has_encoding(color: ColorAttribute) -> bool
     ensures encoding { result ≡ is_some (colour_setting color) }
     ensures bytes { IsTrue result → IsColor color }
@@ -39,7 +39,7 @@ pub(crate) fn color_has_encoding(color: ColorAttribute) -> bool
     }
 }
 
-// A colour that SGR can set, as its setting.
+// The SGR parameter of a colour that SGR can set.
 fn color_setting(color: ColorAttribute) -> ColorSpec
     requires { colour_setting color ≢ None }
     ensures { colour_setting color ≡ Some result }
@@ -52,7 +52,7 @@ fn color_setting(color: ColorAttribute) -> ColorSpec
     }
 }
 
-// Each of these answers none where the attribute is plain.
+// This and the following functions return `None` where the attribute is plain.
 fn unless_normal(value: Intensity) -> Option<Sgr>
     ensures { result ≡ unless_normal value }
 {
@@ -89,7 +89,7 @@ fn unless_base_line(value: VerticalAlign) -> Option<Sgr>
     }
 }
 
-// The colour of the text, unless it is the default one.
+// The foreground, unless it is the default colour.
 fn foreground_setting(color: ColorSpec) -> Option<Sgr>
     ensures { result ≡ unless_default sgr.Foreground color }
 {
@@ -99,7 +99,7 @@ fn foreground_setting(color: ColorSpec) -> Option<Sgr>
     }
 }
 
-// The background, unless it is the default one.
+// The background, unless it is the default colour.
 fn background_setting(color: ColorSpec) -> Option<Sgr>
     ensures { result ≡ unless_default sgr.Background color }
 {
@@ -109,7 +109,7 @@ fn background_setting(color: ColorSpec) -> Option<Sgr>
     }
 }
 
-// The colour of underlines, unless it is the default one.
+// The underline colour, unless it is the default colour.
 fn underline_setting(color: ColorSpec) -> Option<Sgr>
     ensures { result ≡ unless_default sgr.UnderlineColor color }
 {
@@ -126,7 +126,7 @@ fn when(on: bool, setting: Sgr) -> Option<Sgr>
     if on { Some(setting) } else { None }
 }
 
-// What is set after a reset, with these colours.
+// The settings after a reset, with these colours; `None` for each attribute that is plain.
 fn settings(
     a: &CellAttributes,
     foreground: ColorSpec,
@@ -160,7 +160,7 @@ pub(crate) fn pen_has_encoding(a: &CellAttributes) -> bool
     !lacks_encoding(a) && colors_have_encodings(a)
 }
 
-// Whether the attributes have what no action sets.
+// Whether the attributes have a value that no action sets.
 fn lacks_encoding(a: &CellAttributes) -> bool
     ensures { result ≡ lacks_encoding a.now }
 {
@@ -170,7 +170,7 @@ fn lacks_encoding(a: &CellAttributes) -> bool
     a.semantic_type() != SemanticType::Output || !is_carried(a.hyperlink())
 }
 
-// Whether SGR sets each of their colours.
+// Whether SGR sets each colour of the attributes.
 fn colors_have_encodings(a: &CellAttributes) -> bool
     ensures encoding { result ≡ is_some (pen_settings a.now) }
     ensures bytes { IsTrue result → HaveColors a.now }
@@ -181,7 +181,7 @@ fn colors_have_encodings(a: &CellAttributes) -> bool
     color_has_encoding(a.background()) && color_has_encoding(a.underline_color())
 }
 
-// The settings of attributes whose colours SGR can set, and of these colours.
+// The settings after a reset of attributes whose colours SGR can set, colours included.
 fn pen_settings(a: &CellAttributes) -> [Option<Sgr>; 12]
     requires { pen_settings a.now ≢ None }
     ensures { pen_settings a.now ≡ Some result }
@@ -192,7 +192,7 @@ fn pen_settings(a: &CellAttributes) -> [Option<Sgr>; 12]
     settings(a, foreground, background, underline)
 }
 
-/// Attributes that have an encoding: a reset, the settings after it, and the link or its end.
+/// Appends attributes that have an encoding: a reset, the settings after it, and the link or its end.
 #[tactic(auto, unfolding(crate::specs::Pen::pen_rendering))]
 pub(crate) fn push_pen<'a>(
     actions: &mut Actions<'a>,
@@ -204,7 +204,7 @@ pub(crate) fn push_pen<'a>(
     push_settings(actions, pen_settings(pen), pen.hyperlink())
 }
 
-// A reset, the settings, and the link or its end.
+// Appends a reset, the settings, and the link or its end.
 fn push_settings<'a>(
     actions: &mut Actions<'a>,
     values: [Option<Sgr>; 12],
@@ -220,7 +220,7 @@ fn push_settings<'a>(
     Ok(())
 }
 
-/// Whether SGR or OSC 8 sets one attribute.
+/// Whether SGR or OSC 8 sets an attribute.
 #[tactic(auto, unfolding(crate::specs::Pen::attribute_action))]
 pub(crate) fn attribute_has_encoding(change: &AttributeChange) -> bool
     ensures encoding { result ≡ is_some (attribute_action (attribute_value change.now)) }
@@ -241,7 +241,7 @@ pub(crate) fn attribute_has_encoding(change: &AttributeChange) -> bool
     }
 }
 
-/// An attribute that has an encoding: its SGR, or OSC 8.
+/// Appends an attribute that has an encoding: its SGR, or OSC 8.
 #[tactic(auto, unfolding(crate::specs::Pen::attribute_action))]
 pub(crate) fn push_attribute<'a>(
     actions: &mut Actions<'a>,
@@ -269,7 +269,7 @@ pub(crate) fn push_attribute<'a>(
     }
 }
 
-// A plain pen on a background, set before an erasure.
+// Appends a plain pen with a background, which is set before an erasure.
 fn push_plain_pen(actions: &mut Actions<'_>, color: ColorSpec) -> Result<(), AllocError>
     ensures { OnOk result (actions.new ≡ actions.old ++ plain_pen color) }
 {
@@ -279,7 +279,7 @@ fn push_plain_pen(actions: &mut Actions<'_>, color: ColorSpec) -> Result<(), All
     Ok(())
 }
 
-/// An erasure that leaves blanks of a colour that SGR sets.
+/// Appends an erasure that leaves blanks of a colour that SGR sets.
 #[tactic(auto, unfolding(crate::specs::Pen::clear_rendering))]
 pub(crate) fn push_clear(
     actions: &mut Actions<'_>,
@@ -293,7 +293,7 @@ pub(crate) fn push_clear(
     actions.push_edit(erasure)
 }
 
-/// An erasure of the whole screen, and the cursor goes home.
+/// Appends an erasure of the whole screen, after which the cursor goes home.
 #[tactic(auto, unfolding(crate::specs::Pen::clear_rendering))]
 pub(crate) fn push_clear_screen(
     actions: &mut Actions<'_>,

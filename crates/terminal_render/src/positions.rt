@@ -14,7 +14,8 @@ use crate::moves::Move;
 use cell_base::Position;
 use std::alloc::AllocError;
 
-/// A known position, counted from 1, or a distance before or after the current one.
+/// A line or a column: an absolute one, counted from 1, or a distance back (left, up) or on (right, down) from
+/// the current one.
 #[derive(Clone, Copy)]
 pub(crate) enum Way {
     At(u32),
@@ -22,7 +23,7 @@ pub(crate) enum Way {
     On(usize),
 }
 
-// The position `at`, counted from 0, or the last of `size`; answered counted from 1.
+// The column or row `at`, counted from 0, or the last of `size`; the result counts from 1.
 fn coordinate_of(size: usize, at: usize) -> u32
     requires some { 0 < size }
     requires within { size < 2 ^ 32 }
@@ -46,7 +47,7 @@ fn way_of(size: usize, position: Position) -> Way
     }
 }
 
-// The count, or the largest parameter.
+// The count, at most the largest parameter.
 fn count_of(count: usize) -> u32
     ensures { result ≡ min count word_max }
 {
@@ -70,7 +71,7 @@ fn column_at(col: u32) -> Move
     Move::ToColumn(Coordinate::new(col))
 }
 
-// CUU; none by 0.
+// CUU; none where the count is 0.
 fn up(rows: usize) -> Option<Move>
     ensures { listed result ≡ move_by cursor.Up rows }
 {
@@ -81,7 +82,7 @@ fn up(rows: usize) -> Option<Move>
     }
 }
 
-// CUD.
+// CUD; none where the count is 0.
 fn down(rows: usize) -> Option<Move>
     ensures { listed result ≡ move_by cursor.Down rows }
 {
@@ -92,7 +93,7 @@ fn down(rows: usize) -> Option<Move>
     }
 }
 
-// CUF.
+// CUF; none where the count is 0.
 fn right(columns: usize) -> Option<Move>
     ensures { listed result ≡ move_by cursor.Right columns }
 {
@@ -103,7 +104,7 @@ fn right(columns: usize) -> Option<Move>
     }
 }
 
-// The moves to a column, counted from 1, that lead the row a way.
+// The moves to a column, counted from 1, and by a way to a row.
 #[tactic(auto, unfolding(crate::specs::Positions::moves))]
 fn moves_to(col: u32, row: Way) -> (Option<Move>, Option<Move>)
     requires column { 1 ≤ col }
@@ -117,7 +118,7 @@ fn moves_to(col: u32, row: Way) -> (Option<Move>, Option<Move>)
     }
 }
 
-// The moves by `columns` to the right that lead the row a way, not both by 0.
+// The moves by `columns` to the right and by a way to a row; at least one of them moves.
 #[tactic(auto, unfolding(crate::specs::Positions::moves))]
 fn moves_on(columns: usize, row: Way) -> (Option<Move>, Option<Move>)
     requires { moves (On columns) (way_value row) ≢ None }
@@ -130,8 +131,8 @@ fn moves_on(columns: usize, row: Way) -> (Option<Move>, Option<Move>)
     }
 }
 
-/// Whether moves lead to a column and a row: to no column at or past the width, and to none by a way back, and not
-/// where neither moves.
+/// Whether moves encode a position: none do for a column at or past the width, for a relative column to the left, or
+/// where neither column nor row moves.
 #[tactic(auto, unfolding(crate::specs::Positions::moves, crate::specs::Positions::position_moves))]
 pub(crate) fn position_has_encoding(width: usize, height: usize, x: Position, y: Position) -> bool
     ensures { result ≡ is_some (position_moves width height x y) }
@@ -144,7 +145,7 @@ pub(crate) fn position_has_encoding(width: usize, height: usize, x: Position, y:
     }
 }
 
-// The moves to a column and a row that have an encoding, on a screen of `width` columns and `height` rows.
+// The moves of a position that has an encoding, on a screen of `width` columns and `height` rows.
 #[tactic(auto, unfolding(crate::specs::Positions::position_moves))]
 fn position_moves(
     width: usize,
@@ -167,7 +168,7 @@ fn position_moves(
     }
 }
 
-/// The moves to a column and a row that have an encoding, in turn.
+/// Appends the moves of a position that has an encoding.
 pub(crate) fn push_position(
     actions: &mut Actions<'_>,
     width: usize,
@@ -184,7 +185,7 @@ pub(crate) fn push_position(
     push_moves(actions, first, second)
 }
 
-// The moves, in turn.
+// Appends two moves in turn.
 fn push_moves(
     actions: &mut Actions<'_>,
     first: Option<Move>,
@@ -197,7 +198,7 @@ fn push_moves(
     Ok(())
 }
 
-// A move, if there is one.
+// Appends a move, if there is one.
 fn push_optional(actions: &mut Actions<'_>, step: Option<Move>) -> Result<(), AllocError>
     ensures { OnOk result (actions.new ≡ actions.old ++ map moved (listed step)) }
 {

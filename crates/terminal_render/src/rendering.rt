@@ -35,7 +35,7 @@ fn title_has_encoding(title: &str) -> bool
     is_plain_text(title)
 }
 
-// Whether a region is of all rows, as far as there are rows.
+// Whether a region has all rows; a region that goes past the last row ends there.
 fn is_whole(height: usize, first_row: usize, region_size: usize) -> bool
     ensures { result ≡ is_whole height first_row region_size }
 {
@@ -47,7 +47,7 @@ fn is_whole(height: usize, first_row: usize, region_size: usize) -> bool
 #[tactic(auto, unfolding(crate::specs::Pen::clear_rendering, crate::specs::Rendering::scroll_rendering))]
 pub fn has_encoding(change: &Change, width: usize, height: usize) -> bool
     ensures encoding { result ≡ is_some (rendering (change_value change.now) width height) }
-    // (colours are of bytes, and texts are UTF-8)
+    // (the components of colours are bytes, and texts are UTF-8)
     ensures change { IsTrue result → IsChange (change_value change.now) }
 {
     match change {
@@ -75,13 +75,13 @@ pub fn has_encoding(change: &Change, width: usize, height: usize) -> bool
 }
 
 /// The actions that encode a change for a terminal of `width` columns and `height` rows, 1 to 2^32 - 1
-/// each, as ECMA-48 and xterm's control sequences spell it: they do to the terminal's screen what the
-/// change does. A text is cut at its C0 controls and DEL, and each part that is printed ends
-/// in NUL, so that nothing is held. The actions read back from the bytes that `encode` writes of them.
+/// each, by ECMA-48 and xterm's control sequences: they do to the terminal's screen what the change
+/// does. A text is cut at its C0 controls and DEL, and each part that is printed ends in NUL, so that
+/// no run is held. The actions read back from the bytes that `encode` writes of them.
 ///
-/// `NoSpelling` where no actions do so, whatever the memory: a column at or past the
-/// width, a way back in the row, a position that moves nothing; scrolls of a part of the rows; a colour
-/// that falls back to the palette, `wrapped`, a semantic type other than output; a link that is
+/// `NoSpelling` where no actions do so, also where memory is short: a column at or past the
+/// width, a relative move to the left, a position that moves nothing; scrolls of a part of the rows; a
+/// true colour with a palette fallback, `wrapped`, a semantic type other than output; a link that is
 /// implicit, doesn't read back from its text or holds a control; U+0080 to U+009F in a text, and any
 /// control in a title; the cursor's colour and shape, and the size of a row.
 #[tactic(auto, using(crate::proofs::EncodedLemmas::first_rendered))]

@@ -10,8 +10,8 @@ ghost use Rattle.terminal_render.specs.Spelling.{HaveEncodings};
 
 use crate::laws::renderings_are_short;
 
-/// The encodings of changes are together no longer than the bounds of each: 320 bytes beside a title or a
-/// link, for a text twice its bytes, and one more than it has where it holds no C0 control or DEL.
+/// The encodings of changes are together no longer than the sum of a bound for each: 320 bytes besides a title
+/// or a link; for a text twice its length in bytes, or its length and one where it holds no C0 control or DEL.
 pub fn encoded_lists_are_short()
     ensures { (width : ℕ) (height : ℕ) (changes : List ChangeValue) (actions : List StreamAction)
         → IsScreenSize width height → HaveEncodings width height changes
@@ -20,7 +20,7 @@ pub fn encoded_lists_are_short()
     renderings_are_short();
 }
 
-/// And no more than 320 bytes encode each, beside its text, its title, or its link's parameters and URI.
+/// At most 320 bytes encode each change, besides its text, its title, or its link's parameters and URI.
 pub fn encoded_changes_are_short()
     ensures { (width : ℕ) (height : ℕ) (changes : List ChangeValue) → IsScreenSize width height
         → HaveEncodings width height changes → AreShort width height changes }
@@ -28,8 +28,8 @@ pub fn encoded_changes_are_short()
     renderings_are_short();
 }
 
-/// The encodings of changes print their texts, each once and in turn; each C0 control or DEL in them as a
-/// space, but CR and LF, which print nothing.
+/// The encodings of changes print the texts of the changes, each once and in turn; a C0 control or DEL in a
+/// text prints a space, except CR and LF, which print nothing.
 pub fn deltas_print_each_run_once()
     ensures { (width : ℕ) (height : ℕ) (changes : List ChangeValue) (actions : List StreamAction)
         → all_rendered changes width height ≡ Some actions → prints_in actions ≡ runs_in changes }

@@ -11,7 +11,7 @@ use escape_stream::ControlCode;
 use screen_effects::{split_at_control, split_control};
 use std::alloc::AllocError;
 
-// A text without controls, unless it is empty.
+// Appends a text without controls, unless it is empty.
 fn push_plain<'a>(actions: &mut Actions<'a>, text: &'a str) -> Result<(), AllocError>
     ensures { OnOk result (actions.new ≡ actions.old ++ flat_map part_actions (plain_part text.now)) }
 {
@@ -21,7 +21,7 @@ fn push_plain<'a>(actions: &mut Actions<'a>, text: &'a str) -> Result<(), AllocE
     actions.push_run(text)
 }
 
-// A control: CR and LF themselves, another one as a space.
+// Appends a control: CR and LF themselves, any other one as a space.
 fn push_control(actions: &mut Actions<'_>, control: u8) -> Result<(), AllocError>
     ensures { OnOk result (actions.new ≡ actions.old ++ part_actions (Control control)) }
 {
@@ -32,7 +32,7 @@ fn push_control(actions: &mut Actions<'_>, control: u8) -> Result<(), AllocError
     }
 }
 
-/// A text, cut at its controls.
+/// Appends a text, cut at its controls.
 pub(crate) fn push_text<'a>(actions: &mut Actions<'a>, text: &'a str) -> Result<(), AllocError>
     ensures { OnOk result (actions.new ≡ actions.old ++ flat_map part_actions (text_parts text.now)) }
 {
@@ -47,7 +47,7 @@ pub(crate) fn push_text<'a>(actions: &mut Actions<'a>, text: &'a str) -> Result<
     Ok(())
 }
 
-/// A title that has an encoding.
+/// Appends a title that has an encoding.
 #[tactic(auto, unfolding(crate::specs::Texts::title_rendering))]
 pub(crate) fn push_title<'a>(actions: &mut Actions<'a>, title: &'a str) -> Result<(), AllocError>
     requires { title_rendering title.now ≢ None }

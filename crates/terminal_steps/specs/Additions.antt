@@ -9,7 +9,7 @@ use Rattle.screen_log.specs.LogSteps.{Logged, step_of_kept}
 use Rattle.screen_effects.specs.Effect.{replay}
 use Rattle.terminal_steps.specs.Memory.{IsChangeRefused}
 
--- each has had its effect, and was logged
+-- each change has had its effect on the surface, and was logged
 pub record AddsAll {W : Type 0} (width_of : W → List ℕ → ℕ) (before after : Surface W) (changes : List ChangeValue) :
     Type 0 where
   pub shown : shown_by after ≡ replay (width_of before.grid.widths) (shown_by before) changes
@@ -17,8 +17,9 @@ pub record AddsAll {W : Type 0} (width_of : W → List ℕ → ℕ) (before afte
   pub log : after.log ≡ fold step_of_kept before.log (map Logged changes)
   pub stays : after.is_failed ≡ false
 
--- Changes are added in turn. Or the surface had failed before, or one of them has no number, or one is refused memory,
--- and then the surface has failed. A call that takes more memory than theirs may be refused it as well.
+-- Changes are added in turn; or they are refused, because the surface had failed before, because no number is left for
+-- one of them, or because one is refused memory, and then the surface has failed. A call that also takes memory of its
+-- own may be refused that, too.
 pub record AddsWith {W : Type 0}
     (takes_more : Bool) (width_of : W → List ℕ → ℕ) (before : Surface W) (changes : List ChangeValue)
     (result : Result ⊤ SurfaceError) (after : Surface W) : Type 0 where
@@ -28,12 +29,12 @@ pub record AddsWith {W : Type 0}
   pub memory : IsErrOf result Memory → takes_more ≡ false → IsChangeRefused changes (number_of before) after.is_failed
   pub fits : IfOk result (λ _. number_of before < 2 ^ 64 → number_of after < 2 ^ 64)
 
--- it takes theirs alone
+-- the call takes memory for the changes alone
 abbrev pub Adds : {W : Type 0} → (W → List ℕ → ℕ) → Surface W → List ChangeValue → Result ⊤ SurfaceError → Surface W
     → Type 0
 Adds = AddsWith false
 
--- it copies a text or a pen first
+-- the call also takes memory for a copy of a text or a pen, which it makes first
 abbrev pub CopiesAndAdds : {W : Type 0} → (W → List ℕ → ℕ) → Surface W → List ChangeValue → Result ⊤ SurfaceError
     → Surface W → Type 0
 CopiesAndAdds = AddsWith true

@@ -1,4 +1,4 @@
--- What is added for a position, a pen and the end of a row.
+-- The changes of a cursor position, of a pen and of an erasure to the end of a row.
 use Rattle.cell_base.specs.declared.attributes.Position.TheVariants.{Absolute}
 use Rattle.screen_change.specs.ChangeValue.{AllAttributes, ChangeValue, ClearToEndOfLine, CursorPosition}
 use Rattle.terminal_steps.specs.declared.cursor.LineEnd.{LineEnd}

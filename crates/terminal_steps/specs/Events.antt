@@ -1,4 +1,4 @@
--- What events make of what a terminal keeps.
+-- What events do to the state that a terminal keeps.
 use Rattle.std.specs.Prelude.{◌≡◌, ◌≤◌, ◌<◌, ◌^◌, ℕ, false, List, [], fold}
 use Rattle.std.specs.String.{string_bytes}
 use Rattle.cell_surface.specs.Surface.{Surface, shown_by}
@@ -19,7 +19,7 @@ view_of t = record { state = state_of t.surface t.saved t.replies.items; stream 
 abbrev pub surface_in : {W : Type 0} → TerminalState W → Surface W
 surface_in t = t.surface
 
--- the surface hasn't failed, shows a lawful display, and its number is one of 64 bits; no control is held
+-- the surface hasn't failed, shows a lawful display, and its number fits in 64 bits; the held run has no controls
 pub record IsReady {W : Type 0} (t : TerminalState W) : Type 0 where
   pub stays : t.surface.is_failed ≡ false
   pub shown : IsDisplay (shown_by t.surface)
@@ -40,11 +40,11 @@ pub record Had {W : Type 0} (width_of : W → List ℕ → ℕ) (before after : 
     pub shape : (shown_by after.surface).shape ≡ (shown_by before.surface).shape
     pub ready : IsReady after
 
--- a terminal that was ready for events has had them
+-- events of lawful sizes and texts had their meaning on a terminal that was ready for them
 abbrev pub Does : {W : Type 0} → (W → List ℕ → ℕ) → TerminalState W → TerminalState W → List Event → Type 0
 Does width_of before after events = IsReady before → AreEvents events → Had width_of before after events
 
--- the events lead past the numbers of 64 bits
+-- the number after the events doesn't fit in 64 bits
 abbrev pub NeedsNumber : {W : Type 0} → (W → List ℕ → ℕ) → TerminalState W → List Event → Type 0
 NeedsNumber width_of before events =
     IsReady before → AreEvents events → 2 ^ 64 ≤ (final_log width_of before events).log.number

@@ -1,4 +1,4 @@
--- The control functions of the table that the code's represent.
+-- The control functions of the table that those of the code represent.
 use Rattle.std.specs.Prelude.{Option, option_map}
 use Rattle.std.specs.String.{string_bytes}
 use Rattle.terminal_table.specs.Functions as table
@@ -41,6 +41,6 @@ table_function code.FullReset = table.FullReset
 table_function code.ReportStatus = table.ReportStatus
 table_function code.ReportPosition = table.ReportPosition
 
--- as an answer
+-- a control function or none, as a function's answer
 abbrev pub table_functions : Option ControlFunction → Option table.ControlFunction
 table_functions found = option_map table_function found

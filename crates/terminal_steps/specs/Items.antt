@@ -1,4 +1,4 @@
--- What a parser hands out as events, and what they make of what a terminal keeps.
+-- A parser's items as events, and what they do to the state that a terminal keeps.
 use Rattle.std.specs.Prelude.{◌≡◌, ◌<◌, ◌^◌, ℕ, Bool, false, List, [], ◌∷◌, ◌++◌, None, map, fold}
 use Rattle.cell_surface.specs.declared.error.SurfaceError.{SurfaceError}
 use Rattle.cell_surface.specs.declared.error.SurfaceError.TheVariants as refusal
@@ -16,7 +16,7 @@ use Rattle.terminal_steps.specs.Events.{IsReady, Had, Does, NeedsNumber}
 use Rattle.terminal_steps.specs.Memory.{NeedsMemory, TakesMemory}
 use Rattle.terminal_steps.specs.declared.state.TerminalState.{TerminalState}
 
--- a text is printed
+-- the event of an item: a text is printed, an action is done
 abbrev pub item_event : Item → Event
 item_event (Text text) = Act (print_string text)
 item_event (Single action) = Act action
@@ -44,7 +44,7 @@ Leads width_of before after items =
 abbrev pub log_after_items : (List ℕ → ℕ) → View → Sized → List Item → Sized
 log_after_items width_of view log items = fold step_of_kept log (events_logged width_of view (item_events items))
 
--- Of some items one is refused memory, after those before it, for which there were numbers.
+-- One of some items is refused memory after the items before it were done, which had numbers for their changes.
 pub record SomeNeedsMemory
     (width_of : List ℕ → ℕ) (view : View) (log : Sized) (items : List Item) (failed : Bool) : Type 0 where
   pub done : List Item
@@ -55,7 +55,8 @@ pub record SomeNeedsMemory
   pub takes : TakesMemory width_of (fold (event_done width_of) view (item_events done))
       (log_after_items width_of view log done) (item_event item) failed
 
--- The parser is refused memory for bytes after a stream, after some of their pieces, for which there were numbers.
+-- The parser is refused memory for bytes that follow a stream after some of their pieces were done, which had numbers
+-- for their changes.
 pub record ParserNeedsMemory (width_of : List ℕ → ℕ) (view : View) (log : Sized) (stream bytes : List ℕ) : Type 0 where
   pub done : List Piece
   pub left : List Piece

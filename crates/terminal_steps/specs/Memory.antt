@@ -1,4 +1,4 @@
--- What a terminal takes memory for, where it is refused some.
+-- What a terminal can be refused memory for.
 use Rattle.std.specs.Prelude.{◌≡◌, ◌<◌, ◌+◌, ◌^◌, ◌⊎◌, ℕ, Bool, true, false, List, length, Option, Some, None, fold}
 use Rattle.screen_log.specs.LogSteps.{Sized, step_of_kept}
 use Rattle.csi_codec.specs.declared.rendition.Sgr.{Sgr}
@@ -41,30 +41,32 @@ keeps ReportStatus = true
 keeps ReportPosition = true
 keeps _ = false
 
--- Beside its changes an action takes memory for what its control function copies, where its first change has a number
--- after this one, or for what that keeps, where this is a number.
+-- Beside its changes an action takes memory for a text or a pen that its control function copies, if the number after
+-- the current one fits in 64 bits, or for a cursor or a reply that it keeps, if the current number does.
 abbrev pub TakesOwnMemory : Option ControlFunction → ℕ → Type 0
 TakesOwnMemory None number = ⊥
 TakesOwnMemory (Some function) number =
     ((copies function ≡ true) × (number + 1 < 2 ^ 64)) ⊎ ((keeps function ≡ true) × (number < 2 ^ 64))
 
--- after a number a change is refused memory: there is one, the first one has a number, and the surface has failed
+-- one of some changes after a number is refused memory: there is a change, the first one has a number, and the surface
+-- has failed
 abbrev pub IsChangeRefused : {A : Type 0} → List A → ℕ → Bool → Type 0
 IsChangeRefused changes number failed = (0 < length changes) × (number + 1 < 2 ^ 64) × (failed ≡ true)
 
--- the number after the run that is held, once it has ended
+-- the log's number once the held run has ended
 abbrev pub number_settled : View → Sized → ℕ
 number_settled view log = (fold step_of_kept log (run_logged view)).log.number
 
--- From a view and a log on an event is refused memory, and then the surface has failed or not: a print joins the run,
--- what an action asks for takes memory of its own, or one of the changes is refused some.
+-- An event after a view and a log is refused memory, and `failed` is whether the surface has failed then: the event is
+-- a print, which joins the run; or its control function takes memory of its own; or one of its changes is refused
+-- memory.
 abbrev pub TakesMemory : (List ℕ → ℕ) → View → Sized → Event → Bool → Type 0
 TakesMemory width_of view log (Act action) failed =
     (is_print action ≡ true) ⊎ TakesOwnMemory (function_of action) (number_settled view log)
     ⊎ IsChangeRefused (event_logged width_of view (Act action)) log.log.number failed
 TakesMemory width_of view log event failed = IsChangeRefused (event_logged width_of view event) log.log.number failed
 
--- a terminal that was ready for an event takes memory for it
+-- a terminal that was ready for an event is refused memory for it
 abbrev pub NeedsMemory : {W : Type 0} → (W → List ℕ → ℕ) → TerminalState W → Event → TerminalState W → Type 0
 NeedsMemory width_of before event after =
     IsReady before

@@ -39,8 +39,8 @@ fn visibility(shown: bool) -> CursorVisibility
     }
 }
 
-// Refuses a control function that copies a text or a pen where no change has a number any more: so numbers come before
-// memory.
+// Refuses a control function that copies a text or a pen where no number is left for a change: so a call reports that
+// the numbers are used up before it takes memory.
 fn check_number<W: Widths + Drop>(
     surface: &Surface<W>,
     function: &ControlFunction,
@@ -56,7 +56,7 @@ fn check_number<W: Widths + Drop>(
     Ok(())
 }
 
-// What a control function does.
+// Does a control function.
 fn perform<W: Widths + Drop>(
     surface: &mut Surface<W>,
     saved: &mut Option<SavedCursor>,
@@ -105,12 +105,12 @@ fn perform<W: Widths + Drop>(
     }
 }
 
-/// What the terminal's table has for an action: its changes are added to the surface, the cursor is saved
-/// or a saved one forgotten, and a reply follows those that there are. An action for which the
-/// terminal has no control function, as a print, does nothing.
+/// Does what the terminal's table has for an action: its changes are added to the surface, the cursor is
+/// saved or a saved one dropped, and a reply is appended to those not yet taken. An action for which the
+/// terminal has no control function, such as a print, does nothing.
 ///
 /// Refuses as the surface does, and for want of memory for a copy, a saved cursor or a reply; it refuses a change that
-/// has no number before it copies its text or its pen. A refusal leaves the changes done so far.
+/// has no number before it copies its text or its pen. A refusal leaves the changes that were added so far.
 pub(crate) fn apply<W: Widths + Drop>(
     surface: &mut Surface<W>,
     saved: &mut Option<SavedCursor>,

@@ -1,5 +1,5 @@
 //! The changes that set the cursor's position and the pen, and the one that erases to the end of a row. Each has a
-//! type, so that a surface adds it without a test of its kind.
+//! type of its own, so that a surface adds it without a match on the kind of change.
 ghost use Rattle.std.specs.Prelude.{◌≡◌};
 
 use cell_base::{CellAttributes, ColorAttribute, Position};
@@ -41,7 +41,7 @@ impl Pen {
         self.attributes.background()
     }
 
-    /// Blanks of that colour to the end of the cursor's row.
+    /// The erasure to the end of the cursor's row that leaves blanks of the pen's background.
     pub(crate) fn line_end(&self) -> LineEnd
         ensures { result.background ≡ self.now.attributes.background }
     {

@@ -23,7 +23,7 @@ pub(crate) fn current_column<W: Widths + Drop>(surface: &Surface<W>) -> usize
     column.min(width.saturating_sub(1))
 }
 
-/// The position at a column and a row, or at the last ones.
+/// The position at a column and a row, at most the last ones.
 pub(crate) fn position_at<W: Widths + Drop>(
     surface: &Surface<W>,
     column: usize,

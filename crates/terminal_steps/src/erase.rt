@@ -16,7 +16,8 @@ use cell_surface::{Surface, SurfaceError};
 use screen_change::Change;
 use std::alloc::AllocError;
 
-// The pen, to be set again: what erases takes its background for the pen.
+// A copy of the pen, to be set again: a change that erases makes the pen plain, with the background that it erases
+// with.
 fn current_pen<W: Widths + Drop>(surface: &Surface<W>) -> Result<Pen, AllocError>
     ensures { IfOk result (λ pen. pen.attributes ≡ (shown_by surface.now).screen.pen) }
 {
@@ -51,7 +52,7 @@ pub(crate) fn erase_to_end_of_display<W: Widths + Drop>(
     Ok(())
 }
 
-// Where the cursor is; no wrap is pending there.
+// The cursor's position; where a wrap is pending, that of the last column.
 fn same_position<W: Widths + Drop>(surface: &Surface<W>) -> CellPosition
     ensures { position_change result ≡ same_position (shown_by surface.now).screen }
 {
@@ -86,7 +87,7 @@ pub(crate) fn erase_line<W: Widths + Drop>(surface: &mut Surface<W>) -> Result<(
     Ok(())
 }
 
-/// SU (CSI S): all rows move up, as far as there are rows.
+/// SU (CSI S): all rows move up by `count`, at most the height.
 pub(crate) fn scroll_up<W: Widths + Drop>(
     surface: &mut Surface<W>,
     count: u32,
@@ -106,7 +107,7 @@ pub(crate) fn scroll_up<W: Widths + Drop>(
     )
 }
 
-/// SD (CSI T): all rows move down, as far as there are rows.
+/// SD (CSI T): all rows move down by `count`, at most the height.
 pub(crate) fn scroll_down<W: Widths + Drop>(
     surface: &mut Surface<W>,
     count: u32,

@@ -7,7 +7,7 @@ use cell_base::Hyperlink;
 use csi_codec::Sgr;
 use std::rc::Rc;
 
-/// Where a move of the cursor leads. Lines and columns that are named count from 1.
+/// Where a move of the cursor leads. Line and column numbers count from 1.
 #[derive(Clone, Copy)]
 pub(crate) enum Move {
     /// CUU (CSI A), VPB (CSI k): moves the cursor up by this many rows.
@@ -18,7 +18,7 @@ pub(crate) enum Move {
     Left(u32),
     /// CUF (CSI C), HPR (CSI a): moves the cursor right by this many columns.
     Right(u32),
-    /// HT: moves the cursor to the next column that 8 divides.
+    /// HT: moves the cursor to the next column, counted from 0, that 8 divides.
     NextTab,
     /// CNL (CSI E): moves the cursor to the first column of the row that is this many rows below.
     NextLine(u32),
@@ -32,7 +32,7 @@ pub(crate) enum Move {
     ToPosition(u32, u32),
 }
 
-/// A control function, with its counts, its texts and what else it carries.
+/// A control function, with its counts, texts and other parameters.
 #[derive(Drop)]
 pub(crate) enum ControlFunction {
     /// CUU, CUD, CUB, CUF, CNL, CPL, CHA, HPA, VPA, CUP, HVP, HPB, HPR, VPB, VPR, BS and HT: moves the cursor.

@@ -10,8 +10,8 @@ ghost use Rattle.terminal_steps.specs.Items.{item_events};
 use escape_framing::laws::{chunks_join, one_cut};
 use escape_stream::action_laws::pieces_are_actions;
 
-/// The texts and actions of a call have the meaning that the table gives the bytes of the call after a stream, and
-/// log what it says; and what they print holds no control.
+/// The texts and actions of a call have the meaning that the table gives the bytes of the call after a stream, and log
+/// the same; and they print no control.
 pub fn pieces_have_the_meaning_of_bytes()
     ensures state { (width_of : List ℕ → ℕ) (view : View) (bytes : List ℕ)
         → (fold (event_done width_of) view (item_events (items view.stream bytes))).state

@@ -1,6 +1,6 @@
 //! What a terminal does with each action: it reads which control function the action asks for, and adds the changes of
 //! the terminal's table to a surface. `TerminalState` is for the crate `terminal` alone: users call its `Terminal`,
-//! which answers with this crate's `TerminalError`.
+//! whose errors are this crate's `TerminalError`.
 //!
 //! - `actions`: what a terminal does with an action, and with a run of printed characters.
 //! - `changes`: changes that are added to a surface, one after another.
@@ -12,10 +12,10 @@
 //! - `error`: why a call of a terminal was refused.
 //! - `function`: the control functions of a terminal, with their mnemonics.
 //! - `laws`: the law that the texts and actions of a call have the meaning of its bytes.
-//! - `pen`: SGR: what it does to the pen.
+//! - `pen`: SGR, and its effect on the pen.
 //! - `replies`: replies to the application, which asks for them by DSR.
 //! - `saved`: saved cursors (DECSC, DECRC, SCOSC, SCORC) and the full reset (RIS).
-//! - `state`: what a terminal keeps beside its parser, and what events make of it.
+//! - `state`: the state that a terminal keeps beside its parser, and its changes by events.
 //! - `text_runs`: runs of text, and the performer that the parser calls: a text joins the held run, and other
 //!   actions end it.
 #![tactic(auto)]

@@ -1,4 +1,4 @@
-//! SGR: what it does to the pen.
+//! SGR, and its effect on the pen.
 ghost use Rattle.std.specs.Prelude.{◌≡◌, None, IfOk};
 ghost use Rattle.cell_surface.specs.Surface.{shown_by};
 ghost use Rattle.csi_codec.specs.declared.rendition.Sgr.TheVariants as sgr;
@@ -17,7 +17,7 @@ use cell_surface::{Surface, SurfaceError};
 use csi_codec::Sgr;
 use std::alloc::AllocError;
 
-// A plain pen with the link of another.
+// SGR 0: a plain pen with the link of this one.
 fn reset(pen: &CellAttributes) -> Result<Pen, AllocError>
     ensures { IfOk result (λ new. new.attributes ≡ with_rendition sgr.Reset pen.now) }
 {
@@ -54,7 +54,7 @@ fn with_vertical_align(align: VerticalAlign, pen: &CellAttributes) -> Result<Pen
     Ok(Pen { attributes: new })
 }
 
-/// SGR.
+/// SGR (CSI m): sets the pen.
 pub(crate) fn render<W: Widths + Drop>(
     surface: &mut Surface<W>,
     value: Sgr,

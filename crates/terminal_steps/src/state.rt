@@ -1,4 +1,4 @@
-//! What a terminal keeps beside its parser, and what events make of it.
+//! The state that a terminal keeps beside its parser, and its changes by events.
 ghost use Rattle.std.specs.Prelude.{◌≡◌, ◌<◌, ◌+◌, ◌^◌, true, false, IsOk, IfOk, OnOk, IsErrOf, None, [], ◌∷◌};
 ghost use Rattle.cell_base.specs.ScreenSize.{IsScreenSize};
 ghost use Rattle.escape_stream.specs.StreamAction.{is_print};
@@ -19,8 +19,8 @@ use escape_stream::Action;
 use std::alloc::{AllocError, Global};
 use std::mem;
 
-/// What a terminal keeps beside its parser: a surface, the cursor that was saved, the replies that were not
-/// yet taken, and the run of printed characters that nothing has ended.
+/// The state that a terminal keeps beside its parser: a surface, the cursor that was saved, the replies that
+/// were not yet taken, and the run of printed characters that nothing has ended.
 ///
 /// A call that is refused may have done a part of its work.
 #[derive(Drop)]
@@ -80,7 +80,7 @@ impl<W: Widths + Drop> TerminalState<W> {
         self.surface.flush_changes_older_than(number);
     }
 
-    /// The held run ends. Where a run is held the surface may refuse its change.
+    /// The held run ends: its text becomes one change, which the surface may refuse.
     pub fn settle(&mut self) -> Result<(), SurfaceError>
         ensures done { OnOk result (Does (λ w. W.width_of w) self.old self.new (Looked ∷ [])) }
         ensures failed { IsErrOf result SurfaceError.Failed → IsReady self.old → ⊥ }
@@ -98,8 +98,8 @@ impl<W: Widths + Drop> TerminalState<W> {
         Ok(())
     }
 
-    /// Becomes `width` columns wide and `height` rows high, each from 1 to 2^32 - 1. The run ends before; a saved
-    /// cursor stays as it is. Refuses as the surface does.
+    /// Becomes `width` columns wide and `height` rows high, each from 1 to 2^32 - 1. The held run ends first; a
+    /// saved cursor stays as it is. Refuses as the surface does.
     pub fn resize(&mut self, width: usize, height: usize) -> Result<(), SurfaceError>
         requires size { IsScreenSize width height }
         ensures done { OnOk result (Does (λ w. W.width_of w) self.old self.new (Resized width height ∷ [])) }

@@ -5,7 +5,7 @@ use cell_surface::SurfaceError;
 use escape_stream::{Action, Perform};
 
 // A text joins the run, and so does a print; every other action ends it. Refuses as the surface does, and for want of
-// memory; then the clauses leave the state open.
+// memory; the contract doesn't determine the state after a refusal.
 impl<'t, W: Widths + Drop> Perform<'t> for TerminalState<W> {
     ghost use Rattle.std.specs.Prelude.{⊤};
     ghost use Rattle.terminal_steps.specs.Items.{DoesItem, RefusesItem};

@@ -1,4 +1,4 @@
--- One action by itself: a view with nothing unfinished and no held run takes its text, and then a look.
+-- One action by itself: its text and then a look, on a view with nothing unfinished and no held run.
 use Rattle.std.specs.Prelude.{◌≡◌, ℕ, List, [], ◌∷◌, map, if◌then◌else◌}
 use Rattle.screen_log.specs.LogSteps.{LogStep, Logged}
 use Rattle.escape_framing.specs.Held.{held_of, nothing_held}
@@ -20,12 +20,12 @@ pub record IsIdle (view : View) : Type 0 where
 abbrev pub alone : StreamAction → History
 alone action = Piece (stream_text (action ∷ [])) ∷ Look ∷ []
 
--- its row of the table: what it prints is a run
+-- the state after the action's row of the table; the characters of a print action are a run
 abbrev pub row_done : (List ℕ → ℕ) → StreamAction → State → State
 row_done width_of action state =
     if is_print action then run_step width_of (printed action) state else step_of (function_of action) state
 
--- and the changes that its row logs
+-- the changes that the action's row of the table logs
 abbrev pub row_logged : StreamAction → State → List LogStep
 row_logged action state =
     if is_print action then Logged (run_change (printed action)) ∷ []

@@ -8,13 +8,13 @@ use Rattle.terminal_table.specs.Prints.{IsPlain, prints, read}
 use Rattle.terminal_table.specs.Meaning.{View, after}
 use Rattle.terminal_table.specs.Turns.{IsView}
 
--- how many visible cells the screen that a stream leads to has which the one before didn't show
+-- how many visible cells are on the screen after a stream that the screen before it didn't show: fresh cells
 abbrev pub fresh_after : (List ℕ → ℕ) → View → List ℕ → ℕ
 fresh_after width_of view bytes =
     length (screen_fresh view.state.screen (after width_of view (read bytes)).state.screen)
 
--- a plain stream prints at least a third as many texts: each makes at most three new visible cells, its own and a blank
--- on each side
+-- a plain stream prints at least a third as many texts as there are fresh cells: each text makes at most three fresh
+-- cells, its own and a blank on each side
 abbrev pub PlainStreamsPrintAThird : Type 0
 PlainStreamsPrintAThird =
     (width_of : List ℕ → ℕ) (view : View) (bytes : List ℕ) → IsView view → IsPlain width_of view bytes
@@ -29,7 +29,8 @@ is_narrow (RightHalf attributes) = false
 abbrev pub IsNarrow : Screen → Type 0
 IsNarrow screen = All (λ row. IsTrue (list_all is_narrow row)) screen.rows
 
--- and at least as many, where there is no wide text on the screen and none is printed
+-- a plain stream prints at least as many texts as there are fresh cells, if the screen before it has no wide text and
+-- the stream prints none
 abbrev pub NarrowStreamsPrintAsMany : Type 0
 NarrowStreamsPrintAsMany =
     (width_of : List ℕ → ℕ) (view : View) (bytes : List ℕ) → IsView view → IsPlain width_of view bytes

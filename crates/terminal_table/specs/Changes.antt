@@ -1,4 +1,4 @@
--- The changes that are logged for each control function and for a run, in this order, on the state before it.
+-- The changes that are logged, in this order, for each control function and for a run, from the state before it.
 use Rattle.std.specs.Prelude.{ℕ, ◌-◌, min, Bool, true, false, ◌==◌, List, [], ◌∷◌, Option, Some, None, if◌then◌else◌}
 use Rattle.cell_base.specs.declared.attributes.CursorVisibility.{CursorVisibility as Visibility}
 use Rattle.cell_base.specs.declared.attributes.CursorVisibility.TheVariants.{Hidden, Visible}
@@ -21,20 +21,21 @@ use Rattle.terminal_table.specs.Functions.{ScrollUp, ScrollDown, Rendition, Hype
 use Rattle.terminal_table.specs.Functions.{RestoreCursor, FullReset, ReportStatus, ReportPosition}
 use Rattle.terminal_table.specs.Steps.{active_column, target, with_rendition, cursor_to_restore}
 
--- a position at a column and a row, or at the last ones
+-- the change that puts the cursor at a column and a row, at most the last ones
 abbrev pub position : ℕ × ℕ → Screen → ChangeValue
 position at screen =
     CursorPosition (Absolute (min at.0 (screen.width - 1))) (Absolute (min at.1 (height screen - 1)))
 
--- where a move leads
+-- the change that puts the cursor where a move leads
 abbrev pub move_change : Move → Screen → ChangeValue
 move_change move screen = position (target move (active_column screen) screen.row) screen
 
--- where the cursor is; no wrap is pending there
+-- the change that puts the cursor where it is, and so ends a pending wrap
 abbrev pub same_position : Screen → ChangeValue
 same_position screen = position (active_column screen, screen.row) screen
 
--- a setting without a change of its own gives a change of all attributes, those of the new pen
+-- SGR: a setting without an attribute change of its own gives a change of all attributes, those of the new pen; a font
+-- gives none
 abbrev pub rendition_changes : Sgr → Attributes → List ChangeValue
 rendition_changes (sgr.Intensity value) pen = Attribute (attribute.Intensity value) ∷ []
 rendition_changes (sgr.Underline value) pen = Attribute (attribute.Underline value) ∷ []
@@ -55,7 +56,7 @@ abbrev pub visibility : Bool → Visibility
 visibility true = Visible
 visibility false = Hidden
 
--- a cursor that is restored
+-- the changes that restore a saved cursor: its position and its pen
 abbrev pub cursor_changes : SavedCursor → Screen → List ChangeValue
 cursor_changes cursor screen = position (cursor.column, cursor.row) screen ∷ AllAttributes cursor.pen ∷ []
 
@@ -86,7 +87,7 @@ changes FullReset saved screen = ClearScreen Default ∷ CursorVisibility Visibl
 changes ReportStatus saved screen = []
 changes ReportPosition saved screen = []
 
--- the changes of what an action asks for
+-- the changes of the control function that an action asks for, if it asks for one
 abbrev pub changes_of : Option ControlFunction → State → List ChangeValue
 changes_of None state = []
 changes_of (Some function) state = changes function state.saved state.screen

@@ -25,14 +25,14 @@ use Rattle.escape_osc.specs.Command as osc
 use Rattle.escape_stream.specs.StreamAction.{StreamAction}
 use Rattle.escape_stream.specs.StreamAction as stream
 
--- Where a move of the cursor leads. Lines and columns that are named count from 1.
+-- Where a move of the cursor leads. Line and column numbers count from 1.
 pub data Move : Type 0 where
   -- by a count of rows or columns from the cursor
   Up : ℕ → Move  -- CUU, VPB
   Down : ℕ → Move  -- CUD, VPR
   Left : ℕ → Move  -- CUB, HPB, BS
   Right : ℕ → Move  -- CUF, HPR
-  -- to the next column that 8 divides
+  -- to the next column, counted from 0, that 8 divides
   NextTab : Move  -- HT
   -- to the first column of the row that is a count of rows below, or above
   NextLine : ℕ → Move  -- CNL
@@ -71,7 +71,7 @@ abbrev pub control_function : ℕ → Option ControlFunction
 control_function number =
     if number == 8 then Some (Moves (Left 1))  -- BS, ECMA-48 8.3.5
     else if number == 9 then Some (Moves NextTab)  -- HT, 8.3.60
-    -- LF, VT and FF, 8.3.74, 8.3.161 and 8.3.51; xterm: both are treated as LF
+    -- LF, VT and FF, 8.3.74, 8.3.161 and 8.3.51; xterm treats VT and FF as LF
     else if number == 10 || number == 11 || number == 12 then Some LineFeed
     else if number == 13 then Some CarriageReturn  -- CR, 8.3.15
     else None

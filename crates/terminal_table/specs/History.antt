@@ -3,7 +3,7 @@ use Rattle.std.specs.Prelude.{ℕ, List, [], ◌∷◌, ◌++◌, map}
 use Rattle.escape_stream.specs.StreamAction.{StreamAction}
 use Rattle.escape_stream.specs.StreamActions.{newly_decided_actions}
 
--- the terminal reads a chunk of the stream, takes a look at the screen or takes on a width and height, or its log
+-- the terminal reads a chunk of the stream, its screen is looked at, it takes a new width and height, or its log
 -- forgets the changes before a number
 pub data Step : Type 0 where
   Piece : List ℕ → Step
@@ -22,7 +22,7 @@ pieces (Look ∷ history) = pieces history
 pieces (Resize width height ∷ history) = pieces history
 pieces (Forget number ∷ history) = pieces history
 
--- an action that is decided, a look, another size; and that the log forgets, which is nothing to the screen
+-- an action that the bytes have decided, a look, a new size, or a log that forgets, which leaves the screen alone
 pub data Event : Type 0 where
   Act : StreamAction → Event
   Looked : Event

@@ -1,4 +1,4 @@
--- The meaning of a history: what becomes of a terminal.
+-- The meaning of a history: the view of a terminal after it.
 use Rattle.std.specs.Prelude.{ℕ, List, [], ◌++◌, length, fold, ◌==◌, if◌then◌else◌}
 use Rattle.escape_stream.specs.StreamAction.{StreamAction, is_print, printed}
 use Rattle.screen_effects.specs.Resize.{resized_screen}
@@ -14,7 +14,7 @@ pub record View : Type 0 where
   pub stream : List ℕ
   pub held : List ℕ
 
--- nothing has happened
+-- the view of a new terminal
 abbrev pub new_view : ℕ → ℕ → View
 new_view width height = record { state = new_state width height; stream = []; held = [] }
 
@@ -42,11 +42,11 @@ event_done width_of view (Resized width height) =
     record (settled width_of view) { state = with_size width height (settled width_of view).state }
 event_done width_of view (Forgot number) = view
 
--- going on from a view
+-- the view after a history that goes on from a view
 abbrev pub after : (List ℕ → ℕ) → View → History → View
 after width_of view history =
     record (fold (event_done width_of) view (events view.stream history)) { stream = view.stream ++ pieces history }
 
--- what a history makes of a new terminal
+-- the view after a history of a new terminal
 abbrev pub meaning : (List ℕ → ℕ) → ℕ → ℕ → History → View
 meaning width_of width height history = after width_of (new_view width height) history

@@ -1,4 +1,4 @@
--- What a stream prints, and plain streams: those of which only the runs change rows, and nothing scrolls.
+-- The texts that a stream prints, and plain streams: only their runs change rows, and nothing scrolls.
 use Rattle.std.specs.Prelude.{◌≡◌, ℕ, ◌+◌, ◌==◌, ⊤, Bool, true, false, not, List, [], ◌∷◌, ◌++◌, map, Option, Some}
 use Rattle.std.specs.Prelude.{None, if◌then◌else◌}
 use Rattle.cell_base.specs.Cluster.{clusters}
@@ -24,18 +24,18 @@ ends_run (Forgot number) = false
 abbrev pub run_strokes : View → List Stroke
 run_strokes view = map Cluster (clusters view.held)
 
--- the view on which an event does what it does by itself: after the run, if the event ends it
+-- the view before the event's own effect: after the held run, if the event ends the run
 abbrev pub run_ended : (List ℕ → ℕ) → View → Event → View
 run_ended width_of view event = if ends_run event then settled width_of view else view
 
 -- ---- what is printed
 
--- an event prints the run that it ends
+-- the texts that an event prints: those of the run that it ends
 abbrev pub event_prints : (List ℕ → ℕ) → View → Event → List PlacedText
 event_prints width_of view event =
     if ends_run event then strokes_print width_of view.state.screen (run_strokes view) else []
 
--- the events in turn
+-- the texts that events print in turn
 abbrev pub events_print : (List ℕ → ℕ) → View → List Event → List PlacedText
 events_print width_of view [] = []
 events_print width_of view (event ∷ events) =
@@ -45,7 +45,7 @@ events_print width_of view (event ∷ events) =
 abbrev pub read : List ℕ → History
 read bytes = Piece bytes ∷ Look ∷ []
 
--- what a stream prints that goes on from a view
+-- the texts that a stream prints that goes on from a view
 abbrev pub prints : (List ℕ → ℕ) → View → List ℕ → List PlacedText
 prints width_of view bytes = events_print width_of view (events view.stream (read bytes))
 
@@ -60,7 +60,7 @@ function_scrolls (ScrollUp n) screen = true
 function_scrolls (ScrollDown n) screen = true
 function_scrolls _ screen = false
 
--- what an action asks for, and an event by itself
+-- whether the control function that an action asks for scrolls, and whether an event by itself does
 abbrev pub request_scrolls : Option ControlFunction → Screen → Bool
 request_scrolls None screen = false
 request_scrolls (Some function) screen = function_scrolls function screen

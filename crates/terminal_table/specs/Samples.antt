@@ -1,4 +1,4 @@
--- What is seen of a terminal, for worked examples.
+-- The rows, the cursor, the replies and the log of a terminal, for worked examples.
 use Rattle.std.specs.Prelude.{ℕ, List, [], ◌∷◌, ◌++◌, map, slice_index_or}
 use Rattle.cell_base.specs.Cluster.{program_width}
 use Rattle.cell_base.specs.declared.attributes.Position.TheVariants.{Absolute}
@@ -10,7 +10,7 @@ use Rattle.terminal_table.specs.History.{History, Piece, Look}
 use Rattle.terminal_table.specs.Meaning.{meaning}
 use Rattle.terminal_table.specs.Logged.{log_of}
 
--- the text of each row, the cursor's column and row, and the number of changes
+-- the text of each row, the cursor's column and row, and the log's number
 pub record Seen : Type 0 where
   pub rows : List (List ℕ)
   pub column : ℕ

@@ -28,7 +28,7 @@ cursor_of screen = record { column = screen.column; row = screen.row; pen = scre
 abbrev pub home_cursor : SavedCursor
 home_cursor = record { column = 0; row = 0; pen = plain }
 
--- what each state keeps: a lawful screen of whole rows
+-- the invariant of states: the screen is lawful, and its rows are whole
 pub record IsState (state : State) : Type 0 where
   pub lawful : IsScreen state.screen
   pub whole : All IsWhole state.screen.rows

@@ -1,4 +1,4 @@
--- What each control function makes of a state, and what a run of printed characters does.
+-- The effect of each control function on a state, and of a run of printed characters.
 use Rattle.std.specs.Prelude.{ℕ, ◌+◌, ◌-◌, ◌*◌, ◌/◌, min, ◌==◌, List, [], ◌∷◌, ◌++◌, length, take, drop, map, Option}
 use Rattle.std.specs.Prelude.{Some, None, slice_index_or, slice_set, decimal, if◌then◌else◌}
 use Rattle.cell_base.specs.declared.color.ColorAttribute.{ColorAttribute}
@@ -38,7 +38,7 @@ target (ToColumn name) column row = (name - 1, row)  -- CHA, HPA
 target (ToLine name) column row = (column, name - 1)  -- VPA
 target (ToPosition line name) column row = (name - 1, line - 1)  -- CUP, HVP
 
--- the cursor at a column and a row, or at the last ones; so no wrap is pending
+-- the cursor at a column and a row, at most the last ones; so no wrap is pending
 abbrev pub at_position : ℕ × ℕ → Screen → Screen
 at_position at screen = record screen { column = min at.0 (screen.width - 1); row = min at.1 (height screen - 1) }
 
@@ -53,7 +53,7 @@ reverse_index screen =
 
 -- ---- erasures: columns become blanks of the pen's background; the pen is kept
 
--- the columns of a row from one on; a wide text that is cut there is a blank too, with its own attributes
+-- a row whose columns from one on are erased; a wide text that is cut there becomes a blank with its own attributes
 abbrev pub erased_after : ℕ → ColorAttribute → Row → Row
 erased_after column color row = closed_end (take column row) ++ blank_row (length row - column) color
 
@@ -65,7 +65,7 @@ end_of_line_erased screen =
           (erased_after screen.column screen.pen.background (slice_index_or screen.rows screen.row []));
     }
 
--- all rows of some
+-- a blank row for each of some rows
 abbrev pub blanks_for : Screen → List Row → List Row
 blanks_for screen rows = map (λ _. blank_row screen.width screen.pen.background) rows
 
@@ -87,7 +87,7 @@ display_erased screen = record screen { rows = blanks_for screen screen.rows; co
 
 -- ---- the pen
 
--- SGR sets what it names; a reset leaves the link, which no SGR sets
+-- SGR sets the attribute that it names; a reset leaves the link, which no SGR sets
 abbrev pub with_rendition : Sgr → Attributes → Attributes
 with_rendition sgr.Reset pen = record plain { hyperlink = pen.hyperlink }
 with_rendition (sgr.Intensity value) pen = record pen { intensity = value }
@@ -104,7 +104,7 @@ with_rendition (sgr.Background value) pen = record pen { background = attribute_
 with_rendition (sgr.Overline value) pen = record pen { overline = value }
 with_rendition (sgr.VerticalAlign value) pen = record pen { vertical_align = value }
 
--- OSC 8
+-- OSC 8 sets the pen's link, or removes it
 abbrev pub with_link : Option Link → Attributes → Attributes
 with_link link pen = record pen { hyperlink = link }
 
@@ -113,11 +113,11 @@ on_pen change screen = record screen { pen = change screen.pen }
 
 -- ---- saved cursors, and a full reset
 
--- DECRC, SCORC: a saved cursor and its pen; it is kept within the screen, so no wrap is pending
+-- DECRC, SCORC: the cursor at the saved position, at most the last column and row, so no wrap is pending; and its pen
 abbrev pub with_cursor : SavedCursor → Screen → Screen
 with_cursor cursor screen = record (at_position (cursor.column, cursor.row) screen) { pen = cursor.pen }
 
--- the cursor that a restore brings back: home and a plain pen where none was saved
+-- the cursor that DECRC and SCORC restore: home and a plain pen where none was saved
 abbrev pub cursor_to_restore : Option SavedCursor → SavedCursor
 cursor_to_restore None = home_cursor
 cursor_to_restore (Some cursor) = cursor
@@ -138,7 +138,7 @@ position_reply screen = 27 ∷ 91 ∷ decimal (screen.row + 1) ++ 59 ∷ decimal
 
 -- ---- the table
 
--- what becomes of the screen
+-- the screen after a control function
 abbrev pub screen_step : ControlFunction → Option SavedCursor → Screen → Screen
 screen_step (Moves move) saved screen = moved move screen
 screen_step LineFeed saved screen = line_feed screen  -- LF, VT, FF, IND
@@ -163,13 +163,13 @@ screen_step FullReset saved screen = reset_screen screen  -- RIS
 screen_step ReportStatus saved screen = screen  -- DSR 5
 screen_step ReportPosition saved screen = screen  -- DSR 6
 
--- of the saved cursor: only these two change it
+-- the saved cursor after a control function: only DECSC (SCOSC) and RIS change it
 abbrev pub saved_step : ControlFunction → Option SavedCursor → Screen → Option SavedCursor
 saved_step SaveCursor saved screen = Some (cursor_of screen)
 saved_step FullReset saved screen = None
 saved_step _ saved screen = saved
 
--- of the replies: what is replied follows those that were not yet taken
+-- the replies after a control function: a new reply follows those that were not yet taken
 abbrev pub reply_step : ControlFunction → List ℕ → Screen → List ℕ
 reply_step ReportStatus replies screen = replies ++ status_reply
 reply_step ReportPosition replies screen = replies ++ position_reply screen
@@ -183,7 +183,7 @@ step function state = record {
   replies = reply_step function state.replies state.screen;
 }
 
--- the step of what an action asks for
+-- the step of the control function that an action asks for, if it asks for one
 abbrev pub step_of : Option ControlFunction → State → State
 step_of None state = state
 step_of (Some function) state = step function state

@@ -22,7 +22,8 @@ use Rattle.terminal_table.specs.Logged.{event_logged}
 abbrev pub AreSingle : List LineAttribute → Type 0
 AreSingle sizes = All (λ size. size ≡ SingleWidthLine) sizes
 
--- A display turns into another that shows a screen. The cursor's shape stays, and rows of single width do.
+-- A display turns into another that shows a screen. The cursor's shape stays; if all rows have single width, they keep
+-- it.
 pub record Turns (before after : Display) (shown : Screen) : Type 0 where
   pub screen : after.screen ≡ shown
   pub shape : after.shape ≡ before.shape
@@ -32,7 +33,7 @@ pub record Turns (before after : Display) (shown : Screen) : Type 0 where
 abbrev pub IsPrinted : List ℕ → Type 0
 IsPrinted text = IsTrue (list_all (λ b. not (is_ascii_control b)) text)
 
--- what each view keeps: a lawful state, and a run without controls
+-- the invariant of views: the state is lawful, and the held run has no controls
 pub record IsView (view : View) : Type 0 where
   pub lawful : IsState view.state
   pub plain : IsPrinted view.held
@@ -45,7 +46,7 @@ AreSizes (Look ∷ history) = AreSizes history
 AreSizes (Resize width height ∷ history) = (0 < width) × (0 < height) × AreSizes history
 AreSizes (Forget number ∷ history) = AreSizes history
 
--- what events print holds no controls, and their sizes have a column and a row
+-- an event prints no controls, and its size has a column and a row
 abbrev pub IsEvent : Event → Type 0
 IsEvent (Act action) = IsPrinted (printed action)
 IsEvent Looked = ⊤
@@ -63,7 +64,7 @@ changes_in (Logged change ∷ steps) = change ∷ changes_in steps
 changes_in (log.Forgotten number ∷ steps) = changes_in steps
 changes_in (log.Resized most ∷ steps) = changes_in steps
 
--- a display that replays the changes that are logged for an event, and takes on a size with it
+-- a display after it has replayed the changes that are logged for an event, and taken the size of a `Resized`
 abbrev pub replayed : (List ℕ → ℕ) → View → Event → Display → Display
 replayed width_of view (Act action) display =
     replay width_of display (changes_in (event_logged width_of view (Act action)))
@@ -72,7 +73,7 @@ replayed width_of view (Resized width height) display =
     resized width height (replay width_of display (changes_in (event_logged width_of view (Resized width height))))
 replayed width_of view (Forgot number) display = display
 
--- the events in turn
+-- a display that has replayed the events in turn
 abbrev pub all_replayed : (List ℕ → ℕ) → View → List Event → Display → Display
 all_replayed width_of view [] display = display
 all_replayed width_of view (event ∷ events) display =

@@ -1,4 +1,4 @@
-//! Worked examples: what is seen of a new terminal after some bytes, and what is logged of them. Each
+//! Worked examples: the screen of a new terminal after some bytes, and the changes that are logged. Each
 //! is the contract of a function that does nothing.
 ghost use Rattle.std.specs.Prelude.{◌≡◌, [], ◌∷◌, ◌++◌, codes, false, true, None, Some};
 ghost use Rattle.cell_base.specs.declared.attributes.CursorVisibility.TheVariants.{Visible, Hidden};
@@ -16,7 +16,7 @@ ghost use Rattle.terminal_table.specs.Samples.{seen, shown, shown_by_byte, scree
 ghost use Rattle.terminal_table.specs.Samples.{first_column, escape, csi, osc, at, acute, wide_letter};
 
 /// A run of prints is one change, also over two chunks; a look ends it, and so does an action that
-/// does nothing else. Text goes on in the next row, and scrolls at the last.
+/// has no other effect. Text wraps to the next row, and scrolls at the last row.
 pub fn runs()
     ensures joined { seen 4 3 (Piece (codes "w00tfoo") ∷ Piece (codes "baarbaz") ∷ Look ∷ [])
         ≡ record { rows = codes "foob" ∷ codes "aarb" ∷ codes "az  " ∷ []; column = 2; row = 2; number = 1 } }
@@ -114,8 +114,8 @@ pub fn moves()
         ≡ record { rows = codes "x   " ∷ []; column = 1; row = 0; number = 1 } }
 {}
 
-/// Erasures leave blanks of the pen's background and keep the cursor and the pen; where a wrap is
-/// pending, nothing of the row goes, and only an erasure of the whole row or screen ends it.
+/// Erasures leave blanks of the pen's background and keep the cursor and the pen. Where a wrap is
+/// pending, EL 0 and ED 0 erase nothing of the cursor's row; only EL 2 and ED 2 end the pending wrap.
 pub fn erasures()
     ensures pending { seen 4 1 (shown (codes "abcd" ++ csi (codes "K")))
         ≡ record { rows = codes "abcd" ∷ []; column = 4; row = 0; number = 3 } }
@@ -140,7 +140,7 @@ pub fn erasures()
         ∷ AllAttributes plain ∷ [] }
 {}
 
-/// All rows move, as far as there are rows; the cursor stays.
+/// SU and SD: all rows move, by at most the height; the cursor stays.
 pub fn scrolls()
     ensures up { seen 1 3 (shown (codes "abc" ++ csi (codes "2S")))
         ≡ record { rows = codes "c" ∷ codes " " ∷ codes " " ∷ []; column = 1; row = 2; number = 2 } }
@@ -152,8 +152,8 @@ pub fn scrolls()
         ≡ ScrollRegionDown 0 3 1 ∷ Text (codes "ab") ∷ at 0 0 ∷ [] }
 {}
 
-/// The pen: what has no change of its own is logged as all attributes; a reset keeps the link, which
-/// OSC 8 sets and ends; fonts do nothing.
+/// The pen: a setting that has no change of its own is logged as a change of all attributes; a reset keeps
+/// the link, which OSC 8 sets and ends; fonts do nothing.
 pub fn pens()
     ensures attributes { logged_after 1 1 (shown (csi (codes "1;7;31m")))
         ≡ Attribute (attribute.Intensity Bold) ∷ Attribute (attribute.Reverse true)
@@ -172,8 +172,8 @@ pub fn pens()
     ensures fonts { logged_after 1 1 (shown (csi (codes "11;10m"))) ≡ [] }
 {}
 
-/// A cursor is saved with its pen, also where a wrap is pending, and kept within the screen where it
-/// is restored; a full reset leaves the title alone.
+/// A cursor is saved with its pen, also where a wrap is pending, and restored within the screen; a
+/// full reset leaves the title alone.
 pub fn saved_cursors()
     ensures restored { seen 4 2
         (shown (codes "abcd" ++ escape (codes "7") ++ csi (codes "2;4H") ++ escape (codes "8e")))
@@ -213,8 +213,8 @@ pub fn titles_and_replies()
     ensures nothing_logged { logged_after 4 3 (shown (csi (codes "6n") ++ csi (codes "5n"))) ≡ [] }
 {}
 
-/// Another size ends the run, and the log is emptied; it counts as a change where the log wasn't
-/// empty. A log that forgets ends no run.
+/// A new size ends the run and empties the log; it counts as a change where the log wasn't
+/// empty. Forgetting changes of the log ends no run.
 pub fn sizes()
     ensures smaller { seen 4 2 (Piece (codes "ab") ∷ Resize 3 2 ∷ [])
         ≡ record { rows = codes "ab " ∷ codes "   " ∷ []; column = 2; row = 0; number = 2 } }
@@ -227,7 +227,7 @@ pub fn sizes()
     ensures emptied { logged_after 4 1 (Piece (codes "ab") ∷ Resize 3 1 ∷ []) ≡ [] }
 {}
 
-/// What the terminal has no control function for does nothing but end a run.
+/// An action for which the terminal has no control function does nothing but end a run.
 pub fn other_actions()
     ensures controls { logged_after 4 1 (shown (0 ∷ 7 ∷ 14 ∷ 127 ∷ [])) ≡ [] }
     ensures pairs { logged_after 4 1

@@ -23,8 +23,8 @@ use escape_stream::action_laws::actions_of_chunks_join;
 use escape_stream::encoding_laws::writable_lists_read_on;
 
 /// The changes that are logged for a control function, for an action and for a run have on a display
-/// the effect of the table's step: they turn one that shows the state's screen into one that shows the
-/// screen after the step.
+/// the effect of the table's step: they turn a display that shows the state's screen into one that shows
+/// the screen after the step.
 pub fn changes_have_the_effect_of_steps()
     ensures functions { (width_of : List ℕ → ℕ) (function : ControlFunction) (state : State) (display : Display)
         → IsDisplay display → display.screen ≡ state.screen
@@ -39,7 +39,7 @@ pub fn changes_have_the_effect_of_steps()
         → Turns display (effect width_of display (run_change text)) (run_step width_of text state).screen }
 {}
 
-/// A new terminal's state is lawful, and so is what steps, runs and other sizes leave of a lawful one.
+/// A new terminal's state is lawful, and a lawful state stays lawful after a step, a run or a new size.
 pub fn states_stay_lawful()
     ensures new { (width : ℕ) (height : ℕ) → 0 < width → 0 < height → IsState (new_state width height) }
     ensures steps { (function : ControlFunction) (state : State) → IsState state → IsState (step function state) }
@@ -49,7 +49,7 @@ pub fn states_stay_lawful()
         → IsState (with_size width height state) }
 {}
 
-/// What a stream prints holds no controls.
+/// A stream prints no controls.
 pub fn prints_hold_no_controls()
     ensures { (stream : List ℕ) (history : History) → AreSizes history → AreEvents (events stream history) }
 {
@@ -80,8 +80,8 @@ pub fn views_stay_lawful()
     one_cut();
 }
 
-/// What is logged for an event, and for a history, has on a display the effect of the table: replayed on
-/// one that shows the screen before, it leaves one that shows the screen after.
+/// The changes that are logged for an event, and for a history, have on a display the effect of the table:
+/// replayed on a display that shows the screen before, they leave one that shows the screen after.
 pub fn logged_changes_show_the_meaning()
     ensures event { (width_of : List ℕ → ℕ) (view : View) (event : Event) (display : Display) → IsView view
         → IsEvent event → IsDisplay display → display.screen ≡ view.state.screen
@@ -94,8 +94,8 @@ pub fn logged_changes_show_the_meaning()
     one_cut();
 }
 
-/// Going on by one history and then by another is going on by both, in what is shown and in what is
-/// logged; and a chunk may be cut in two.
+/// One history and then another show and log the same as both of them joined; and a chunk may be cut
+/// in two.
 pub fn histories_join()
     ensures after { (width_of : List ℕ → ℕ) (view : View) (first : History) (second : History)
         → after width_of view (first ++ second) ≡ after width_of (after width_of view first) second }
@@ -110,8 +110,8 @@ pub fn histories_join()
     actions_of_chunks_join();
 }
 
-/// Taking the replies changes nothing else, then and later: what goes on from there shows, saves, holds and logs the
-/// same, and has the same new replies, which follow those that were taken.
+/// Taking the replies changes nothing else, then and later: a history that goes on from there shows, saves, holds and
+/// logs the same, and has the same new replies, which follow those that were taken.
 pub fn replies_are_separate()
     ensures after { (width_of : List ℕ → ℕ) (view : View) (history : History)
         → after width_of view history ≡ with_taken view.state.replies (after width_of (without_replies view) history) }
@@ -129,7 +129,7 @@ pub fn runs_go_on()
 {}
 
 /// Of the stream so far only its unfinished end matters: views go on alike where every continuation of
-/// their streams has the same further actions, and so where the same is held of them.
+/// their streams has the same further actions; and streams with the same unfinished end have these.
 pub fn unfinished_ends_matter()
     ensures held { (one : List ℕ) (other : List ℕ) → held_of one ≡ held_of other → DecideAlike one other }
     ensures state { (width_of : List ℕ → ℕ) (view : View) (other : List ℕ) (history : History)
@@ -146,8 +146,9 @@ pub fn unfinished_ends_matter()
     actions_of_chunks_join();
 }
 
-/// The text of one action that is writable by itself, where nothing is unfinished and no run is held, and
-/// then a look, are its row of the table: its step, and its changes; and nothing is unfinished after it.
+/// The text of one action that is writable by itself and then a look, where nothing is unfinished and no run
+/// is held, have the step and the changes of the action's row of the table; and nothing is unfinished after
+/// them.
 pub fn single_actions_are_their_rows()
     ensures state { (width_of : List ℕ → ℕ) (view : View) (action : StreamAction) → IsIdle view
         → IsWritable (action ∷ []) → (after width_of view (alone action)).state ≡ row_done width_of action view.state }

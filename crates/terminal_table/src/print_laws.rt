@@ -4,9 +4,9 @@ ghost use Rattle.terminal_table.specs.Bounds.{NarrowStreamsPrintAsMany, PlainStr
 
 use crate::laws::{prints_hold_no_controls, views_stay_lawful};
 
-/// A plain stream, of which only the runs change rows and nothing scrolls, prints at least a third as many
-/// texts as there are cells on the screen that it leads to which the screen before didn't show; and at
-/// least as many where that screen has no wide text and the stream prints none.
+/// A stream is plain where only its runs change rows and nothing scrolls. It prints at least a third as many
+/// texts as the screen after it has visible cells that the screen before it didn't show; and at least as many
+/// where the screen before it has no wide text and the stream prints none.
 pub fn plain_streams_print_what_is_fresh()
     ensures third { PlainStreamsPrintAThird }
     ensures narrow { NarrowStreamsPrintAsMany }

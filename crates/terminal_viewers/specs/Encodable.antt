@@ -4,8 +4,8 @@ use Rattle.cell_base.specs.Screen.{height}
 use Rattle.cell_surface.specs.Surface.{Surface, shown_by}
 use Rattle.terminal_render.specs.Spelling.{HaveEncodings, IsSpelledScreen}
 
--- it hasn't failed, its width and height are less than 2^32, no shape of the cursor was set, and its screen and the
--- changes that its log keeps have an encoding
+-- the surface hasn't failed, its width and height are less than 2^32, no shape of the cursor was set, and its screen
+-- and the changes that its log keeps have an encoding
 pub record CanBeEncoded {W : Type 0} (surface : Surface W) : Type 0 where
   pub stays : surface.is_failed ≡ false
   pub wide : (shown_by surface).screen.width < 2 ^ 32

@@ -19,14 +19,14 @@ encoded_for width height change = actions_or_none (rendering change width height
 abbrev pub all_encoded : ℕ → ℕ → List ChangeValue → List StreamAction
 all_encoded width height changes = flat_map (encoded_for width height) changes
 
--- the bytes of one, and of each in turn
+-- the bytes that encode a change for a terminal of a width and a height, and those of changes in turn
 unfoldable pub encoded_text : ℕ → ℕ → ChangeValue → List ℕ
 encoded_text width height change = stream_text (encoded_for width height change)
 
 abbrev pub encoded_texts : ℕ → ℕ → List ChangeValue → List ℕ
 encoded_texts width height changes = flat_map (encoded_text width height) changes
 
--- whether a change leads to the position of a pending wrap
+-- whether a change puts the cursor past the last column, where a wrap is pending
 abbrev pub is_pending : ℕ → ChangeValue → Bool
 is_pending width (CursorPosition (Absolute column) y) = column == width
 is_pending width _ = false

@@ -12,15 +12,15 @@ use Rattle.terminal_render.specs.Lists.{all_rendered}
 use Rattle.terminal_table.specs.Changes.{visibility}
 use Rattle.terminal_viewers.specs.Update.{bytes_of, last_cell, written_again}
 
--- The cursor's position and the pen. Nothing but a character leads after the last column: where a wrap is pending the
--- last visible cell of the cursor's row is written once more, and the pen after it.
+-- The cursor's position and the pen. Only a printed character moves the cursor past the last column: so where a wrap is
+-- pending, the last visible cell of the cursor's row is written once more, and then the pen is set.
 abbrev pub position_and_pen : Screen → List ChangeValue
 position_and_pen screen =
     if screen.column == screen.width then written_again screen (last_cell (cursor_row screen))
     else CursorPosition (Absolute screen.column) (Absolute screen.row) ∷ AllAttributes screen.pen ∷ []
 
--- the title, the cells that the old screen doesn't show, the cursor's position and the pen, and whether the cursor is
--- visible
+-- the changes of a patch: the title, the cells that the old screen doesn't show, the cursor's position and the pen, and
+-- whether the cursor is visible
 abbrev pub patch_changes : Screen → Screen → List ChangeValue
 patch_changes old new =
     Title new.title ∷ difference (screen_fresh old new) ++ position_and_pen new
@@ -30,7 +30,7 @@ patch_changes old new =
 abbrev pub patch_of : Screen → Screen → List ℕ
 patch_of old new = bytes_of (all_rendered (patch_changes old new) new.width (height new))
 
--- what a patch prints for the position of a pending wrap: the cell that it writes once more, at its position
+-- the text that a patch prints for the position of a pending wrap: the cell that it writes once more
 abbrev pub print_again : Screen → Option VisibleCell → List PlacedText
 print_again screen None = []
 print_again screen (Some v) = record { row = screen.row; column = v.column; text = v.cell.text } ∷ []

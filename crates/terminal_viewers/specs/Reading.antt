@@ -15,8 +15,8 @@ use Rattle.terminal_table.specs.History.{Piece}
 use Rattle.terminal_table.specs.Meaning.{View, after}
 use Rattle.terminal_viewers.specs.Update.{display_on}
 
--- Who gets a patch, and of what: a viewer that can take changes, with nothing unfinished; and a screen of its size
--- whose cells are sound and have an encoding.
+-- A viewer can read the patch of a screen: the viewer is ready for changes and has nothing unfinished; and the screen
+-- has the viewer's size, and its cells are sound and have an encoding.
 pub record CanReadPatch (width_of : List ℕ → ℕ) (viewer : View) (screen : Screen) : Type 0 where
   pub narrow : width_of space ≡ 1
   pub ready : IsReady viewer
@@ -31,24 +31,24 @@ pub record CanReadPatch (width_of : List ℕ → ℕ) (viewer : View) (screen : 
 abbrev pub patch_for : View → Screen → List ℕ
 patch_for viewer screen = patch_of viewer.state.screen screen
 
--- it then shows the screen, and nothing else of its state is changed
+-- after the patch the viewer shows the screen, and nothing else of its state is changed
 abbrev pub PatchesAreShown : Type 0
 PatchesAreShown = (width_of : List ℕ → ℕ) (viewer : View) (screen : Screen) → CanReadPatch width_of viewer screen
     → (after width_of viewer (Piece (patch_for viewer screen) ∷ [])).state ≡ record viewer.state { screen = screen }
 
--- and nothing is unfinished or held the patch
+-- after the patch the viewer has nothing unfinished and holds no run
 abbrev pub PatchesLeaveIdle : Type 0
 PatchesLeaveIdle = (width_of : List ℕ → ℕ) (viewer : View) (screen : Screen) → CanReadPatch width_of viewer screen
     → IsIdle (after width_of viewer (Piece (patch_for viewer screen) ∷ []))
 
--- it prints the cells that the viewer doesn't show, each once and in turn, and after them, where a wrap is pending,
--- the last cell of the cursor's row
+-- the patch prints the cells that the viewer doesn't show, each once and in turn, and after them, where a wrap is
+-- pending, the last cell of the cursor's row
 abbrev pub PatchesPrintFreshCells : Type 0
 PatchesPrintFreshCells = (width_of : List ℕ → ℕ) (viewer : View) (screen : Screen) → CanReadPatch width_of viewer screen
     → prints width_of viewer (patch_for viewer screen)
     ≡ map text_of (screen_fresh viewer.state.screen screen) ++ position_prints screen
 
--- nothing but what it prints changes rows, and nothing scrolls
+-- only the texts that the patch prints change rows, and nothing scrolls
 abbrev pub PatchesArePlain : Type 0
 PatchesArePlain =
     (width_of : List ℕ → ℕ) (viewer : View) (screen : Screen) → CanReadPatch width_of viewer screen

@@ -1,4 +1,4 @@
--- Sessions: a terminal goes on and answers a viewer, which may answer another one in its turn.
+-- Sessions: a terminal goes on and answers a viewer, which may answer another viewer in its turn.
 use Rattle.std.specs.Prelude.{ℕ, zero, suc, ◌+◌, List, [], ◌∷◌, ◌++◌, fold, replicate}
 use Rattle.cell_base.specs.Screen.{height}
 use Rattle.terminal_viewers.specs.Patch.{patch_of}
@@ -9,8 +9,8 @@ use Rattle.terminal_viewers.specs.Updates.{Standing, new_standing, standing_afte
 
 -- ---- viewers
 
--- Its standing, as a terminal; the number that it holds; and the history, since the last answer, of the one that
--- answers it.
+-- A viewer: its standing, as it is a terminal, too; the number of its last answer; and the history, since that answer,
+-- of the terminal or viewer that answers it.
 pub record Viewer : Type 0 where
   pub standing : Standing
   pub number : ℕ
@@ -19,7 +19,7 @@ pub record Viewer : Type 0 where
 abbrev pub new_viewer : ℕ → ℕ → Viewer
 new_viewer width height = record { standing = new_standing width height; number = 0; since = [] }
 
--- the sizes of a history
+-- the resizes of a history
 abbrev pub sizes : History → History
 sizes [] = []
 sizes (Piece bytes ∷ history) = sizes history
@@ -38,14 +38,14 @@ abbrev pub answer_bytes : Answer → Standing → ℕ → Standing → List ℕ
 answer_bytes Update viewer number one = update_of one.view.state.screen one.log number
 answer_bytes Patch viewer number one = patch_of viewer.view.state.screen one.view.state.screen
 
--- it repeats the sizes since the last answer, and reads the answer
+-- what a viewer does for an answer: it repeats the resizes since the last answer, and reads the answer
 abbrev pub readings : (List ℕ → ℕ) → Answer → Viewer → Standing → History
 readings width_of answer viewer one =
     sizes viewer.since
     ++ Piece (answer_bytes answer (standing_after width_of viewer.standing (sizes viewer.since)) viewer.number one)
     ∷ []
 
--- then it holds the number that was given
+-- a viewer after an answer: it holds the number that came with the answer
 abbrev pub answered : (List ℕ → ℕ) → Answer → Viewer → Standing → Viewer
 answered width_of answer viewer one =
     record {
@@ -69,12 +69,12 @@ new_chain terminal count =
       viewers = replicate count (new_viewer terminal.view.state.screen.width (height terminal.view.state.screen));
     }
 
--- one has gone through a history, and the viewer that it answers has not been answered since
+-- viewers of which the first is answered by a terminal or viewer that has gone through a history since the last answer
 abbrev pub lagging : History → List Viewer → List Viewer
 lagging history [] = []
 lagging history (viewer ∷ viewers) = record viewer { since = viewer.since ++ history } ∷ viewers
 
--- the viewer at index `at`, if there is one, gets an answer; the one that answers takes a look first
+-- the viewer at index `at`, if there is one, gets an answer; the terminal or viewer that answers takes a look first
 abbrev pub answering : (List ℕ → ℕ) → Answer → ℕ → Standing → List Viewer → Chain
 answering width_of answer at one [] = record { terminal = one; viewers = [] }
 answering width_of answer zero one (viewer ∷ viewers) =
@@ -121,12 +121,12 @@ abbrev pub round : ℕ → List Answer → List Turn
 round at [] = []
 round at (answer ∷ answers) = Answers at answer ∷ round (at + 1) answers
 
--- the terminal has replies that were taken too, before those that were not
+-- a chain whose terminal also has replies that were taken, before those that were not
 abbrev pub with_taken : List ℕ → Chain → Chain
 with_taken taken chain =
     record chain { terminal = record chain.terminal { view = replies.with_taken taken chain.terminal.view } }
 
--- what the terminal goes through, if it has viewers: its steps, and a look for each answer to the first one
+-- the history of a session's terminal that has viewers: its steps, and a look for each answer to the first viewer
 abbrev pub steps_of : List Turn → History
 steps_of [] = []
 steps_of (Goes step ∷ turns) = step ∷ steps_of turns

@@ -12,8 +12,9 @@ use Rattle.terminal_table.specs.Turns.{IsView}
 use Rattle.terminal_viewers.specs.Update.{display_on}
 use Rattle.terminal_viewers.specs.Updates.{Standing, standing_after}
 
--- The standings of a terminal that answers viewers: its state is lawful, of less than 2^32 columns and rows; its cells
--- are sound; they, its run and the changes that its log keeps have an encoding; and each of these changes has a number.
+-- A terminal at a standing can answer viewers: its state is lawful, with less than 2^32 columns and rows; its cells are
+-- sound; the cells, the run and the changes that the log keeps have an encoding; and each of these changes has a
+-- number.
 pub record CanAnswer (width_of : List ℕ → ℕ) (s : Standing) : Type 0 where
   pub lawful : IsView s.view
   pub wide : s.view.state.screen.width < 2 ^ 32
@@ -41,7 +42,7 @@ IsShown at one [] = ⊤
 IsShown zero one (viewer ∷ viewers) = viewer.standing.view.state.screen ≡ one.view.state.screen
 IsShown (suc at) one (viewer ∷ viewers) = IsShown at viewer.standing viewers
 
--- in every session, after each answer
+-- in every session a viewer shows the screen of the one that answered it, after each answer
 abbrev pub AnswersAreShown : Type 0
 AnswersAreShown =
     (width_of : List ℕ → ℕ) (terminal : Standing) (count : ℕ) (turns : List Turn) (at : ℕ) (answer : Answer)
@@ -50,7 +51,7 @@ AnswersAreShown =
     session width_of (new_chain terminal count) (turns ++ Answers at answer ∷ []) in IsShown at chain.terminal
     chain.viewers
 
--- and where the viewers are answered one after another, each of them shows the terminal's screen
+-- each of some viewers shows a screen: the terminal's, where the viewers are answered one after another
 abbrev pub AllShow : Screen → List Viewer → Type 0
 AllShow screen viewers = All (λ viewer. viewer.standing.view.state.screen ≡ screen) viewers
 

@@ -33,8 +33,8 @@ written_again screen (Some v) =
     CursorPosition (Absolute v.column) (Absolute screen.row) ∷ AllAttributes v.cell.attributes ∷ Text v.cell.text
     ∷ AllAttributes screen.pen ∷ []
 
--- A change of a repaint as it can be encoded: only a character leads past the last column, so for the position of a
--- pending wrap the last visible cell of the cursor's row is written once more.
+-- A change of a repaint as it can be encoded: only a printed character moves the cursor past the last column, so for
+-- the position of a pending wrap the last visible cell of the cursor's row is written once more.
 abbrev pub as_encoded : Screen → ChangeValue → List ChangeValue
 as_encoded screen (CursorPosition (Absolute column) y) =
     if column == screen.width then written_again screen (last_cell (cursor_row screen))
@@ -43,11 +43,11 @@ as_encoded screen change = change ∷ []
 
 -- ---- an update
 
--- the screen painted anew, with its one title, also an empty one
+-- the screen painted anew, with its title, also an empty one
 abbrev pub painted_anew : Screen → List ChangeValue
 painted_anew screen = flat_map (as_encoded screen) (repaint_with (Title screen.title ∷ []) (display_on screen))
 
--- the changes that are due; where none are the screen is painted anew
+-- the changes that are due; where the log doesn't have them, those that paint the screen anew
 abbrev pub due_or : List ChangeValue → Option (List ChangeValue) → List ChangeValue
 due_or painted None = painted
 due_or painted (Some changes) = changes

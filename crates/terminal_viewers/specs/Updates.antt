@@ -8,8 +8,8 @@ use Rattle.terminal_table.specs.Logged.{log_after}
 use Rattle.terminal_table.specs.Meaning.{View, new_view, after}
 use Rattle.terminal_viewers.specs.Update.{update_of}
 
--- an input in chunks of `every` bytes, of which the first begins with `begun`; the last one is shorter, and empty where
--- nothing is left for it
+-- an input in chunks of `every` bytes, of which the first begins with `begun`; the last chunk is shorter, or empty
+-- where no byte is left for it
 abbrev pub in_chunks : ℕ → List ℕ → List ℕ → List (List ℕ)
 in_chunks every begun [] = begun ∷ []
 in_chunks every begun (byte ∷ input) =
@@ -29,12 +29,12 @@ abbrev pub new_standing : ℕ → ℕ → Standing
 new_standing width height =
     record { view = new_view width height; log = record { most = most_due width height; log = new_log } }
 
--- where a history leads
+-- the standing after a history
 abbrev pub standing_after : (List ℕ → ℕ) → Standing → History → Standing
 standing_after width_of s history =
     record { view = after width_of s.view history; log = log_after width_of s.view s.log history }
 
--- after each chunk the update for the number that was given last
+-- after each chunk the update for the number of the update before it
 abbrev pub updates_after : (List ℕ → ℕ) → Standing → ℕ → List (List ℕ) → List ℕ
 updates_after width_of s number [] = []
 updates_after width_of s number (chunk ∷ chunks) =
@@ -46,6 +46,6 @@ abbrev pub updates : (List ℕ → ℕ) → ℕ → ℕ → ℕ → List ℕ →
 updates width_of width height every input =
     updates_after width_of (new_standing width height) 0 (in_chunks every [] input)
 
--- what the terminal shows at the end
+-- the view of the terminal at the end of the input
 abbrev pub updated : (List ℕ → ℕ) → ℕ → ℕ → ℕ → List ℕ → View
 updated width_of width height every input = after width_of (new_view width height) (looks (in_chunks every [] input))

@@ -19,7 +19,7 @@ use Rattle.terminal_viewers.specs.Shows.{Shows}
 use Rattle.terminal_viewers.specs.Update.{display_on, update_of}
 use Rattle.terminal_viewers.specs.Updates.{Standing, updated, updates}
 
--- a screen that takes on the sizes of a history in turn, and nothing else of it
+-- a screen after the resizes of a history in turn, and nothing else of the history
 abbrev pub repeated : History → Screen → Screen
 repeated [] screen = screen
 repeated (Piece bytes ∷ history) screen = repeated history screen
@@ -50,8 +50,8 @@ HistoriesKeepSound =
 
 -- ---- what is shown at a number
 
--- a viewer that shows a terminal at a number, and takes on the sizes of a history, shows at that number what the
--- history makes of the terminal
+-- a viewer that shows a terminal at a number, and repeats the resizes of a history, shows at that number the terminal
+-- after the history
 abbrev pub ViewersGoOnShowing : Type 0
 ViewersGoOnShowing =
     (width_of : List ℕ → ℕ) (shown : Screen) (number : ℕ) (view : View) (log : Sized) (history : History) → IsView view
@@ -69,8 +69,8 @@ ScreensShowThemselves =
 
 -- ---- updates that are read
 
--- Who gets an update, and of what: a viewer that can take changes, with nothing unfinished, which shows at a number
--- a screen whose cells are sound; and the cells, and the changes that its log keeps, have an encoding.
+-- A viewer can read an update: it is ready for changes, has nothing unfinished, and shows at a number a screen whose
+-- cells are sound; and the cells, and the changes that the screen's log keeps, have an encoding.
 pub record CanRead (width_of : List ℕ → ℕ) (viewer : View) (screen : Screen) (log : Sized) (number : ℕ) : Type 0 where
   pub narrow : width_of space ≡ 1
   pub ready : IsReady viewer
@@ -81,21 +81,21 @@ pub record CanRead (width_of : List ℕ → ℕ) (viewer : View) (screen : Scree
   pub encodings : HaveEncodings screen.width (height screen) log.log.entries
   pub shows : Shows width_of viewer.state.screen number screen log
 
--- it then shows the screen, and nothing else of its state is changed
+-- after the update the viewer shows the screen, and nothing else of its state is changed
 abbrev pub UpdatesAreShown : Type 0
 UpdatesAreShown =
     (width_of : List ℕ → ℕ) (viewer : View) (screen : Screen) (log : Sized) (number : ℕ)
     → CanRead width_of viewer screen log number
     → (after width_of viewer (Piece (update_of screen log number) ∷ [])).state ≡ record viewer.state { screen = screen }
 
--- and nothing is unfinished or held the update
+-- after the update the viewer has nothing unfinished and holds no run
 abbrev pub UpdatesLeaveIdle : Type 0
 UpdatesLeaveIdle =
     (width_of : List ℕ → ℕ) (viewer : View) (screen : Screen) (log : Sized) (number : ℕ)
     → CanRead width_of viewer screen log number
     → IsIdle (after width_of viewer (Piece (update_of screen log number) ∷ []))
 
--- a new viewer that is fed the updates of an input shows in the end what the terminal shows
+-- a new viewer that is fed the updates of an input shows the terminal's screen in the end
 abbrev pub UpdatesShowTheInput : Type 0
 UpdatesShowTheInput =
     (width_of : List ℕ → ℕ) (width height every : ℕ) (input : List ℕ) → width_of space ≡ 1
@@ -103,7 +103,7 @@ UpdatesShowTheInput =
     → (after width_of (new_view width height) (Piece (updates width_of width height every input) ∷ [])).state.screen
     ≡ (updated width_of width height every input).state.screen
 
--- and it is idle then
+-- after these updates the new viewer has nothing unfinished and holds no run
 abbrev pub UpdatesLeaveNewViewersIdle : Type 0
 UpdatesLeaveNewViewersIdle =
     (width_of : List ℕ → ℕ) (width height every : ℕ) (input : List ℕ) → width_of space ≡ 1
@@ -112,7 +112,7 @@ UpdatesLeaveNewViewersIdle =
 
 -- ---- standings that answer alike
 
--- bytes are fed and looks taken, and nothing else happens
+-- a history in which bytes are fed and looks taken, and nothing else happens
 abbrev pub AreFed : History → Type 0
 AreFed [] = ⊤
 AreFed (Piece bytes ∷ history) = AreFed history
@@ -120,15 +120,15 @@ AreFed (Look ∷ history) = AreFed history
 AreFed (Resize width height ∷ history) = ⊥
 AreFed (Forget number ∷ history) = ⊥
 
--- two views are equal except for the replies that the host has not yet taken
+-- two views are equal except for the replies that were not yet taken
 pub record AreAlike (one other : View) : Type 0 where
   pub screen : one.state.screen ≡ other.state.screen
   pub saved : one.state.saved ≡ other.state.saved
   pub stream : one.stream ≡ other.stream
   pub held : one.held ≡ other.held
 
--- two logs are at the same number, and from a number on the same is due; each change that one of them keeps has a
--- number
+-- two logs are at the same number, and from a number on the same changes are due; each change that one of them keeps
+-- has a number
 pub record SameIsDue (number : ℕ) (one other : Sized) : Type 0 where
   pub most : one.most ≡ other.most
   pub count : one.log.number ≡ other.log.number
@@ -136,8 +136,8 @@ pub record SameIsDue (number : ℕ) (one other : Sized) : Type 0 where
   pub other_counted : length other.log.entries ≤ other.log.number
   pub same : (n : ℕ) → number ≤ n → due one.most one.log n ≡ due other.most other.log n
 
--- From a number on one terminal answers as another: so does one that drops its replies, and forgets the changes before
--- that number, beside one that keeps all.
+-- From a number on one terminal answers viewers as another does: so a terminal that drops its replies and forgets the
+-- changes before that number answers as one that keeps all of them.
 pub record AnswersAs (number : ℕ) (kept whole : Standing) : Type 0 where
   pub views : AreAlike kept.view whole.view
   pub logs : SameIsDue number kept.log whole.log

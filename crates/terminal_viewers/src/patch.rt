@@ -1,5 +1,5 @@
 //! The patch: the bytes that make a viewer of the same size show a screen. Only `terminal` calls it: it requires a
-//! surface each change of which has an encoding, and only a terminal's is known to be one.
+//! surface each change of which has an encoding, and only the surface of a terminal is known to have this.
 ghost use Rattle.std.specs.Prelude.{◌≡◌, ◌++◌, false, length, map, IfOk, OnOk};
 ghost use Rattle.screen_change.specs.ChangeValue.{CursorVisibility};
 ghost use Rattle.screen_change.specs.ValueOf.{value_of};
@@ -19,7 +19,7 @@ use cell_surface::Surface;
 use screen_change::Change;
 use std::alloc::{AllocError, Global};
 
-// The changes that write the cells of a surface which another one doesn't show.
+// The changes that write the cells of `surface` that `shown` doesn't show.
 fn fresh_cells<W: Widths + Drop>(
     shown: &Surface<W>,
     surface: &Surface<W>,
@@ -78,10 +78,10 @@ fn encode_visibility<W: Widths + Drop>(
     encoder.encode(bytes, &Change::CursorVisibility(visibility))
 }
 
-/// The bytes for a terminal which shows what another surface of the same size shows, so that it
-/// shows what the surface shows: the title, also an empty one; the cells that are not shown, each once, row by row;
-/// the cursor's position, where a wrap is pending by the last cell of its row, which is written once more; the pen; and
-/// whether the cursor is visible.
+/// The bytes that turn a terminal with the screen of `shown` into one with the screen of `surface`, which has the same
+/// size: the title, also an empty one; the cells that `shown` doesn't show, each once, row by row; the cursor's
+/// position, where a wrap is pending by the last cell of its row, which is written once more; the pen; and whether
+/// the cursor is visible.
 ///
 /// Want of memory is the only refusal.
 pub fn patch<W: Widths + Drop>(

@@ -19,10 +19,10 @@ use screen_difference::print_laws::{differences_print_the_fresh_cells, prints_jo
 use terminal_render::encoding_laws::spelled_changes_are_writable;
 use terminal_render::laws::lists_have_the_effect;
 
-/// A patch from a screen to another one of its size, replayed on the first, leaves the second: its rows, its
-/// cursor with a wrap that may be pending, its visibility, its pen and its title. A space takes one column, and
-/// each cell of the second has a text that is by itself one cluster (UAX 29) without C0 controls and DEL, in as
-/// many columns as it takes.
+/// The changes of a patch from a screen to another one of its size, replayed on the first, leave the second: its
+/// rows, its cursor with a wrap that may be pending, the cursor's visibility, its pen and its title. A space takes
+/// one column, and each cell of the second has a text that is by itself one cluster (UAX 29) without C0 controls
+/// and DEL, and the columns that this text takes.
 pub fn patches_lead_to_the_screen()
     ensures { (width_of : List ℕ → ℕ) (old : Screen) (new : Screen) → width_of space ≡ 1 → IsDisplay (display_on old)
         → IsDisplay (display_on new) → IsSoundDisplay width_of (display_on new) → old.width ≡ new.width
@@ -40,9 +40,9 @@ pub fn patches_have_encodings()
         → HaveEncodings new.width (height new) (patch_changes old new) }
 {}
 
-/// A viewer of a screen's size that can take changes and has nothing unfinished shows the screen once it is
-/// fed the patch from the screen that it shows: its saved cursor and its replies stay, and nothing is unfinished
-/// or held. The screen's cells are sound, and they have an encoding.
+/// A viewer of a screen's size that is ready for changes and has nothing unfinished shows the screen once it is
+/// fed the patch from the screen that it shows: its saved cursor and its replies stay, nothing is unfinished and
+/// no run is held. The screen's cells are sound, and they have an encoding.
 pub fn viewers_read_patches()
     ensures shown { PatchesAreShown }
     ensures idle { PatchesLeaveIdle }

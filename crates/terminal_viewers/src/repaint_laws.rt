@@ -5,8 +5,9 @@ ghost use Rattle.screen_effects.specs.Display.{Display, IsDisplay};
 ghost use Rattle.screen_repaint.specs.Repaint.{repaint};
 ghost use Rattle.terminal_render.specs.Spelling.{HaveOtherEncodings, HaveEncodings, IsSpelledScreen};
 
-/// Each change of a repaint of a display whose screen has an encoding has one at its size, except the position of a
-/// pending wrap and a shape of the cursor: so all of them where no wrap is pending and no shape was set.
+/// Each change of a repaint of a display whose screen has an encoding has one at the display's size, except the
+/// position of a pending wrap and a shape of the cursor: so all changes have one where no wrap is pending and no shape
+/// was set.
 pub fn repaints_have_encodings()
     ensures remaining { (display : Display) → IsDisplay display → IsSpelledScreen display.screen
         → HaveOtherEncodings display.screen (repaint display) }

@@ -1,5 +1,6 @@
 //! The update: the bytes of the changes that are due, or of the whole screen. Only `terminal` and `patch` call this
-//! module: it requires a surface each change of which has an encoding, and only a terminal's is known to be one.
+//! module: it requires a surface each change of which has an encoding, and only the surface of a terminal is known to
+//! have this.
 ghost use Rattle.std.specs.Prelude.{◌≡◌, ◌++◌, false, length, map, take, IfOk, OnErr, OnOk};
 ghost use Rattle.std.specs.List.{flat_map};
 ghost use Rattle.std.specs.Option.{option_map};
@@ -46,7 +47,7 @@ fn cursor_line<W: Widths + Drop>(surface: &Surface<W>) -> &Line
     &surface.screen_lines()[row]
 }
 
-// Whether a change leads to the position of a pending wrap.
+// Whether a change puts the cursor past the last column, where a wrap is pending.
 fn is_pending(change: &Change, width: usize) -> bool
     ensures { result ≡ is_pending width (value_of change.now) }
 {
@@ -60,7 +61,7 @@ fn is_pending(change: &Change, width: usize) -> bool
 }
 
 /// Encodes changes for a viewer of `width` columns and `height` rows: appends their bytes, by ECMA-48 and
-/// xterm's control sequences. Want of memory is the only refusal; the bytes stay as they were then.
+/// xterm's control sequences. Want of memory is the only refusal; then the bytes stay as they were.
 #[derive(Clone, Copy)]
 pub struct ViewerEncoder {
     alloc: Global,
@@ -72,7 +73,7 @@ pub struct ViewerEncoder {
 }
 
 impl ViewerEncoder {
-    /// A terminal of a surface's size. What the surface shows is lawful.
+    /// An encoder for viewers of a surface's size. The contract also states that the surface shows a lawful display.
     pub fn of<W: Widths + Drop>(alloc: Global, surface: &Surface<W>) -> ViewerEncoder
         requires { CanBeEncoded surface.now }
         ensures width { result.width ≡ (shown_by surface.now).screen.width }
@@ -190,7 +191,7 @@ impl ViewerEncoder {
         result
     }
 
-    // Appends the encoding; what was appended before a refusal stays.
+    // Appends the bytes of `encode_again`; those that were appended before a refusal stay.
     fn append_again<W: Widths + Drop>(
         &self,
         bytes: &mut Vec<u8>,
@@ -218,7 +219,7 @@ impl ViewerEncoder {
         Ok(())
     }
 
-    // Encodes a change of a repaint.
+    // Encodes a change of a repaint; the position of a pending wrap by `encode_again`.
     fn encode_painted<W: Widths + Drop>(
         &self,
         bytes: &mut Vec<u8>,
@@ -289,14 +290,14 @@ impl ViewerEncoder {
     }
 }
 
-/// The bytes for a terminal of the surface's size which shows what the surface showed at a
-/// number of changes, so that it shows what the surface shows: those of the changes that are due from
-/// that number on; or, where none are, of those that paint the screen anew on any terminal of its size,
-/// from a clear on, with the title, also an empty one, and with a wrap that is pending, by the last cell
-/// of the cursor's row, which is written once more.
+/// The bytes by which a terminal of the surface's size, with the screen that the surface had at a number of
+/// changes, shows the surface's screen: those of the changes that are due from that number on; or, where the
+/// log doesn't have these, of the changes that paint the screen anew on any terminal of its size, from a clear
+/// on, with the title, also an empty one. A pending wrap is encoded by the last cell of the cursor's row, which
+/// is written once more.
 ///
-/// Want of memory is the only refusal. It borrows the changes from the log, and appends each one's bytes as it
-/// renders the change.
+/// Want of memory is the only refusal. The changes that are due are borrowed from the log, and the bytes of each
+/// are appended as it is rendered.
 pub fn update<W: Widths + Drop>(
     alloc: Global,
     surface: &Surface<W>,

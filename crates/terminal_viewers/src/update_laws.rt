@@ -1,5 +1,5 @@
-//! Laws of updates: they paint the screen or hold what is due, and have encodings. Each is the contract of a function
-//! that does nothing.
+//! Laws of updates: they paint the screen or have the changes that are due, and have encodings. Each is the contract
+//! of a function that does nothing.
 ghost use Rattle.std.specs.Prelude.{◌≡◌, ℕ, ◌+◌, ◌*◌, ◌≤◌, List, [], length, Some, None};
 ghost use Rattle.cell_base.specs.Row.{space};
 ghost use Rattle.cell_base.specs.Screen.{IsScreen, Screen, height};
@@ -15,8 +15,8 @@ ghost use Rattle.terminal_viewers.specs.Update.{display_on, painted_anew, update
 /// Any display of the same size on which the changes that paint a screen anew are replayed shows that
 /// screen: its rows, its cursor with a wrap that may be pending, its pen, and its title, also an empty
 /// one. A space takes one column, and each cell of the screen has a text that is by itself one cluster
-/// (UAX 29) without C0 controls and DEL, in as many columns as it takes, as all cells have that changes
-/// write.
+/// (UAX 29) without C0 controls and DEL, and the columns that this text takes, as all cells have that
+/// changes write.
 pub fn updates_paint_the_screen()
     ensures { (width_of : List ℕ → ℕ) (other : Display) (screen : Screen) → width_of space ≡ 1
         → IsDisplay (display_on screen) → IsSoundDisplay width_of (display_on screen) → IsDisplay other
@@ -24,8 +24,8 @@ pub fn updates_paint_the_screen()
         → (replay width_of other (painted_anew screen)).screen ≡ screen }
 {}
 
-/// Each change that paints anew a screen that has an encoding has one at its size, and so has each change of an
-/// update where those that the log keeps have one.
+/// Where a screen has an encoding, each change that paints it anew has one at the screen's size, and so has each
+/// change of an update if the changes that the log keeps have one.
 pub fn updates_have_encodings()
     ensures painted { (screen : Screen) → IsDisplay (display_on screen) → IsSpelledScreen screen
         → HaveEncodings screen.width (height screen) (painted_anew screen) }
@@ -35,8 +35,8 @@ pub fn updates_have_encodings()
 {}
 
 /// At most 2wh + 2h + 11 changes paint a screen of w columns and h rows anew, and an update has no more,
-/// where the log answers with as many changes as may be due at that size. Each change that the log
-/// keeps is taken to have a number, as in all logs.
+/// where at most as many changes are due as the log of a screen of that size allows. Each change that the log
+/// keeps has a number, as in all logs.
 pub fn updates_are_counted()
     ensures painted { (screen : Screen) → IsScreen screen
         → length (painted_anew screen) ≤ 2 * screen.width * height screen + 2 * height screen + 11 }
@@ -45,8 +45,8 @@ pub fn updates_are_counted()
         → length (update_changes screen log number) ≤ 2 * screen.width * height screen + 2 * height screen + 11 }
 {}
 
-/// An update is of the changes that are due, exactly where some list of changes is due, and else of those that
-/// paint the screen anew; and where the list is empty it has no bytes.
+/// An update has the changes that are due where the log has these, and else those that paint the screen anew;
+/// and where the list of due changes is empty it has no bytes.
 pub fn updates_are_what_is_due()
     ensures due { (screen : Screen) (log : Sized) (number : ℕ) (changes : List ChangeValue)
         → due log.most log.log number ≡ Some changes → update_changes screen log number ≡ changes }

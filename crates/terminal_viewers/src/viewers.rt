@@ -1,4 +1,5 @@
-//! Laws of viewers: what one shows that reads updates. Each is the contract of a function that does nothing.
+//! Laws of viewers: which screen a viewer shows that reads updates. Each is the contract of a function that does
+//! nothing.
 ghost use Rattle.terminal_viewers.specs.Viewers.{EventsKeepSound, HistoriesKeepSound, NewViewsAreSound};
 ghost use Rattle.terminal_viewers.specs.Viewers.{ScreensShowThemselves, UpdatesAreShown, UpdatesLeaveIdle};
 ghost use Rattle.terminal_viewers.specs.Viewers.{UpdatesLeaveNewViewersIdle, UpdatesShowTheInput, ViewersGoOnShowing};
@@ -10,8 +11,8 @@ use terminal_render::encoding_laws::spelled_changes_are_writable;
 use terminal_render::laws::lists_have_the_effect;
 
 /// Each cell of a terminal's screen has a text that is by itself one cluster (UAX 29), without C0
-/// controls and DEL, and the columns that it takes: so it is on a new screen, and so it stays whatever
-/// comes, where what comes has an encoding. A space takes one column.
+/// controls and DEL, and the columns that this text takes: so it is on a new screen, and so it stays
+/// after all events that have an encoding. A space takes one column.
 pub fn views_stay_sound()
     ensures new { NewViewsAreSound }
     ensures event { EventsKeepSound }
@@ -20,10 +21,10 @@ pub fn views_stay_sound()
     one_cut();
 }
 
-/// A screen that shows a terminal's at a number goes on to show it at that number, whatever bytes the
-/// terminal reads, wherever it takes a look and whatever its log forgets, if the screen takes on the same sizes
-/// in turn: where changes are due from that number on they lead from the one screen to the other. And each
-/// screen shows itself at the number of its log.
+/// A screen that shows a terminal's screen at a number goes on to show it at that number, whatever bytes the
+/// terminal reads, wherever it takes a look and whatever its log forgets, if the screen repeats the terminal's
+/// resizes in turn: where changes are due from that number on, they turn the one screen into the other. And
+/// each screen shows itself at the number of its log.
 pub fn viewers_go_on_showing()
     ensures history { ViewersGoOnShowing }
     ensures seen { ScreensShowThemselves }
@@ -31,9 +32,9 @@ pub fn viewers_go_on_showing()
     one_cut();
 }
 
-/// A viewer of a screen's size that shows the screen at a number, can take changes and has nothing
+/// A viewer of a screen's size that shows the screen at a number, is ready for changes and has nothing
 /// unfinished, shows the screen once it is fed the update for that number: its saved cursor and its
-/// replies stay, and nothing is unfinished or held. The screen's cells are sound, and they and the
+/// replies stay, nothing is unfinished and no run is held. The screen's cells are sound, and they and the
 /// changes that its log keeps have an encoding.
 pub fn viewers_read_updates()
     ensures shown { UpdatesAreShown }
@@ -45,7 +46,7 @@ pub fn viewers_read_updates()
     updates_paint_the_screen();
 }
 
-/// A new viewer that is fed all updates of an input shows in the end what the terminal shows, and is idle.
+/// A new viewer that is fed all updates of an input shows the terminal's screen in the end, and is idle.
 pub fn updates_show_the_input()
     ensures shown { UpdatesShowTheInput }
     ensures idle { UpdatesLeaveNewViewersIdle }

@@ -39,7 +39,7 @@ impl Numbers {
     }
 }
 
-// Gives the columns from `a` on, before `b`, a kind.
+// Sets the kind of the columns from `a` to before `b`.
 fn paint(kinds: &mut [usize], a: usize, b: usize, kind: usize) {
     for (column, old) in kinds.iter_mut().enumerate() {
         if a <= column && column < b {
@@ -72,13 +72,13 @@ fn shows(runs: &Runs, palette: &[CellAttributes], kinds: &[usize]) -> bool {
     runs.len() == kinds.len() && runs.stored().len() == count_runs(kinds)
 }
 
-// Adds columns. Whether it did.
+// Adds columns; returns whether they were added.
 fn add(runs: &mut Runs, count: usize, attributes: &CellAttributes) -> bool {
     let most = 1 << 40;
     count < most && runs.len() < most && runs.push(count, attributes).is_ok()
 }
 
-// Gives columns attributes. Whether it did.
+// Sets the attributes of the columns from `a` to before `b`; returns whether they were set.
 fn give(runs: &mut Runs, a: usize, b: usize, attributes: &CellAttributes) -> bool {
     a <= b && b <= runs.len() && runs.set(a, b, attributes).is_ok()
 }
@@ -88,7 +88,7 @@ fn has(runs: &Runs, column: usize, attributes: &CellAttributes) -> bool {
     column < runs.len() && *runs.at(column) == *attributes
 }
 
-// One edit of both. Whether it was taken.
+// Does a random edit of the runs and of the kinds; returns whether both took it.
 fn edit(
     runs: &mut Runs,
     kinds: &mut Vec<usize>,

@@ -48,7 +48,7 @@ fn link_of<R: Abort + AllocGlobal>(rt: &R, uri: &str) -> Rc<Hyperlink> {
     Rc::new(rt.alloc(), link).expect(rt, "memory")
 }
 
-// Red on a true colour, with a colour under it and a link.
+// A red foreground, a true colour as background, an underline colour and a link.
 fn colored<R: Abort + AllocGlobal>(rt: &R) -> CellAttributes {
     let mut a = CellAttributes::blank();
     a.set_foreground(AnsiColor::Red);
@@ -91,7 +91,7 @@ fn same_but_for_colors_and_link(rt: HostRuntime) {
     assert!(rt; !a.attribute_bits_equal(&b));
 }
 
-// Applies a change that is equal to its copy.
+// Applies a change, which must be equal to its copy.
 fn apply<R: Abort>(rt: &R, a: &mut CellAttributes, change: AttributeChange) {
     let copy = change.try_clone().expect(rt, "memory");
     assert!(rt; copy == change);

@@ -20,7 +20,7 @@ fn assert_first<R: Abort + AllocGlobal>(rt: &R, action: &Action, count: usize) {
     assert!(rt; read.first() == Some(action));
 }
 
-// A control sequence is all that is read of its bytes.
+// The bytes of a control sequence are read as that sequence and nothing else.
 fn assert_csi<R: Abort + AllocGlobal>(rt: &R, sequence: CSI) {
     assert_first(rt, &Action::CSI(sequence), 1);
 }
@@ -150,7 +150,7 @@ fn requests_and_pairs(rt: HostRuntime) {
     }
 }
 
-// A command, and the pair that ends it, are all that is read of its bytes.
+// The bytes of a command are read as that command and the ESC pair that ends it (ST), and nothing else.
 fn assert_command<R: Abort + AllocGlobal>(rt: &R, command: OperatingSystemCommand) {
     let command = Box::new(rt.alloc(), command).expect(rt, "memory");
     assert_first(rt, &Action::OperatingSystemCommand(command), 2);

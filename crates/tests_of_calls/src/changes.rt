@@ -1,6 +1,5 @@
 //! Changes: conversions, copies and equality; lists of them that write cells with other changes between; and
-//! prefixes of
-//! texts. か has width 2.
+//! prefixes of texts. か has width 2.
 use cell_base::{
     AttributeChange, CellAttributes, ColorAttribute, Intensity, LineAttribute, Position,
 };
@@ -48,7 +47,7 @@ fn copies(rt: HostRuntime) {
     assert!(rt; is_copied(&rt, &Change::ClearScreen(ColorAttribute::Default), &text));
 }
 
-// Whether the change is that text.
+// Whether the change is this text.
 fn is_text(change: Option<&Change>, text: &str) -> bool {
     match change {
         Some(Change::Text(found)) => found.as_str() == text,

@@ -5,7 +5,8 @@ use cell_edits::{row, runs};
 use clustered_row::{ClusteredCell, ClusteredRow};
 use std::alloc::Global;
 
-// What is set: ASCII, short and long; ideographs; combining marks; what joins; what shows as a space; and nothing.
+// The texts that edits set: ASCII, short and long; ideographs; combining marks; joined clusters; controls, which show
+// as a space; and the empty text.
 fn text_at(number: usize) -> &'static str {
     match number {
         0 => "a",
@@ -63,7 +64,7 @@ fn shows(row: &ClusteredRow, cells: &[Cell]) -> bool {
     visible.next().is_none() && row.len() == cells.len()
 }
 
-// Sets a text on both. Whether both took it alike.
+// Sets a text on the row and on the cells; returns whether both took it alike.
 fn write(
     row: &mut ClusteredRow,
     alloc: Global,
@@ -93,7 +94,7 @@ fn write(
     column == other_column && left == other_left
 }
 
-// Sets blanks on both. Whether both took them.
+// Sets blanks on the row and on the cells; returns whether both took them.
 fn erase(
     row: &mut ClusteredRow,
     cells: &mut Vec<Cell>,
@@ -108,7 +109,7 @@ fn erase(
         && runs::set_blanks(cells, start, end, attributes).is_ok()
 }
 
-// One edit of both. Whether it was taken.
+// Does a random edit of the row and of the cells; returns whether both took it.
 fn edit(
     row: &mut ClusteredRow,
     alloc: Global,
@@ -150,7 +151,7 @@ fn is_byte(cell: &ClusteredCell<'_>, byte: u8, attributes: &CellAttributes) -> b
     !cell.is_wide && cell.text.as_bytes() == [byte].as_slice() && *cell.attributes == *attributes
 }
 
-// Whether runs of plain cells, and the cells between them, are what the row shows cell by cell.
+// Whether `pass_plain`, and `next` between its runs of plain cells, give the cells that the row shows cell by cell.
 fn passes_what_it_shows(row: &ClusteredRow, most: usize) -> bool {
     let mut remaining = row.visible_cells();
     let mut run: &[u8] = &[];

@@ -19,7 +19,7 @@ fn position(cluster: &CellCluster, byte: usize) -> Option<(usize, u8)> {
     }
 }
 
-// The cluster has that text, `width` columns, that first column, and these positions of its bytes.
+// The cluster has this text, `width` columns, this first column, and these positions of its bytes.
 fn assert_cluster<R: Abort>(
     rt: &R,
     cluster: &CellCluster,

@@ -1,4 +1,4 @@
-//! Commands without parts, what is written after other bytes, commands that differ, and all selections.
+//! Commands without parts, commands that are appended to other bytes, commands that differ, and all selections.
 use bitflags::Flags;
 use escape_osc::{OperatingSystemCommand, Selection};
 use std::process::Abort;

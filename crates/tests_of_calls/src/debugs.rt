@@ -26,7 +26,7 @@ fn assert_debug<R: Abort + AllocGlobal, T: Debug>(rt: &R, value: &T, want: &str)
     assert_eq!(rt; text.as_str(), want);
 }
 
-// A value's text begins so.
+// A value's text begins with `want`.
 fn assert_begins<R: Abort + AllocGlobal, T: Debug>(rt: &R, value: &T, want: &str) {
     let text = format!(in rt.alloc(); "{value:?}").expect(rt, "memory");
     assert!(rt; text.as_str().starts_with(want));

@@ -13,7 +13,7 @@ fn text_of<R: Abort + AllocGlobal>(rt: &R, text: &str) -> String {
     String::from_str(rt.alloc(), text).expect(rt, "memory")
 }
 
-// Red and black swapped, with nearly all other renditions.
+// A dark red foreground in reverse video, with nearly all other renditions.
 fn loud() -> CellAttributes {
     let mut a = CellAttributes::blank();
     a.set_intensity(Intensity::Bold);
@@ -40,7 +40,7 @@ fn add<R: Abort + AllocGlobal>(rt: &R, surface: &mut Surface<ProgramWidth>, chan
     let _number = surface.add_change(change).expect(rt, "memory");
 }
 
-// A row of some columns on which a text is written.
+// A surface of one row on which a text is written.
 fn row_of<R: Abort + AllocGlobal>(
     rt: &R,
     width: usize,

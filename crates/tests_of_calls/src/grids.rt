@@ -1,4 +1,4 @@
-//! Grids: what their lines show after some changes.
+//! Grids: the texts of their lines after some changes.
 ghost use Rattle.screen_grid.specs.Grid.{IsDrawn};
 
 use cell_base::{

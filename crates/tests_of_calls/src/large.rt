@@ -73,7 +73,7 @@ pub fn rows<R: Abort + AllocGlobal>(rt: &R, first: &[u8], second: &[u8]) -> Stri
     String::from_utf8(rows).expect(rt, "text")
 }
 
-// What a terminal sends that shows these rows.
+// The update for number 0 of a terminal, which must show these rows.
 fn update_of<R: Abort + AllocGlobal>(
     rt: &R,
     mut terminal: Plain,
@@ -84,7 +84,7 @@ fn update_of<R: Abort + AllocGlobal>(
     terminal.update(0).expect(rt, "memory").1
 }
 
-// A text of `count` lines, each of three changes, scrolls to these rows in one chunk and in several.
+// A text of `count` lines, each of three changes, leads to these rows, in one chunk and in several.
 fn assert_scrolls<R: Abort + AllocGlobal>(rt: &R, line: &[u8], count: usize, rows: &str) {
     let bytes = times(rt, line, count);
     let number = count.saturating_mul(3);
@@ -156,7 +156,7 @@ fn command_of<R: Abort + AllocGlobal>(rt: &R, title: &[u8]) -> Vec<u8> {
     command
 }
 
-// The terminal has that title, and so has a viewer that reads its update.
+// The terminal has this title, and so has a viewer that reads its update.
 fn assert_titled<R: Abort + AllocGlobal>(rt: &R, mut terminal: Plain, title: &[u8]) {
     assert!(rt; terminal.surface().title().as_bytes() == title);
     let (_, update) = terminal.update(0).expect(rt, "memory");

@@ -1,10 +1,10 @@
-//! Screens of 300 columns and 100 rows: updates, patches, another size, and long lines.
+//! Screens of 300 columns and 100 rows: updates, patches, a new size, and long lines.
 use crate::large::{Plain, fed, times};
 use cell_base::{CellAttributes, ProgramWidth};
 use cell_line::Line;
 use std::process::Abort;
 
-// What is sent for a letter in row 50 and column 150, to a viewer that has seen all before.
+// The update of a letter in line 50 and column 150, counted from 1, for a viewer that has seen all changes before it.
 const LETTER: &[u8] = b"\x1b[50;150Hx\0";
 
 // The patch of that letter: the title, the letter, the cursor's position, the pen and the cursor.
@@ -33,13 +33,14 @@ fn full<R: Abort + AllocGlobal>(rt: &R) -> Plain {
     fed(rt, 300, 100, &text)
 }
 
-// A viewer that reads an answer shows what the terminal shows.
+// A viewer that reads the bytes of an update or a patch shows the terminal's rows and cursor.
 fn assert_read<R: Abort + AllocGlobal>(rt: &R, terminal: &Plain, viewer: &mut Plain, bytes: &[u8]) {
     assert!(rt; viewer.feed(bytes).is_ok());
     assert_same(rt, terminal, viewer);
 }
 
-// The answer for the changes before a number has that number of its own, and brings the viewer up to date.
+// The update for a viewer that has seen the changes before `since` has the number `number`, and brings the viewer up
+// to date.
 fn take_update<R: Abort + AllocGlobal>(
     rt: &R,
     terminal: &mut Plain,
@@ -64,7 +65,7 @@ fn updates_of_a_large_screen(rt: HostRuntime) {
     assert!(rt; letter.as_slice() == LETTER);
 }
 
-// The patch from what a viewer of the same size shows brings it up to date.
+// The patch from the screen of a viewer of the same size brings it up to date.
 fn take_patch<R: Abort + AllocGlobal>(rt: &R, terminal: &mut Plain, viewer: &mut Plain) -> Vec<u8> {
     let (width, height) = terminal.surface().dimensions();
     let (other_width, other_height) = viewer.surface().dimensions();
@@ -85,7 +86,7 @@ fn patches_of_a_large_screen(rt: HostRuntime) {
     assert!(rt; letter.as_slice() == PATCH);
 }
 
-// All cells of a full screen on a blank one: each is printed once.
+// The patch from a blank screen to a full one prints each cell once.
 #[test]
 fn patches_of_a_whole_screen(rt: HostRuntime) {
     let mut terminal = full(&rt);

@@ -5,7 +5,7 @@ use escape_stream::{Action, Parser, Piece, encode};
 use std::process::Abort;
 use terminal::{ProgramWidth, Watched, run, show};
 
-// Whether all that a parser lends is one text.
+// Whether the pieces of some bytes are one text that a parser lends, of all the bytes.
 fn is_one_text(parser: &mut Parser, bytes: &[u8]) -> bool {
     let mut pieces = parser.pieces(bytes);
     let is_first = matches!(pieces.next(), Some(Ok(Piece::Text(text))) if text.as_bytes() == bytes);
@@ -101,7 +101,7 @@ fn rows_of_a_megabyte(rt: HostRuntime) {
     assert!(rt; writer.into_inner().as_slice() == expected.as_bytes());
 }
 
-// Updates after each 64 KB and at the end, and what a new terminal shows that reads them.
+// Updates after each 64 KB and at the end, and the screen of a new terminal that reads them.
 #[test]
 fn updates_of_a_megabyte(rt: HostRuntime) {
     let bytes = times(&rt, &long_line(&rt), 1024);

@@ -1,4 +1,4 @@
-//! Parsers of which pieces were dropped before their end.
+//! Parsers whose pieces were dropped before their end.
 use escape_stream::{ParseError, Parser};
 
 // Takes one piece of a text and a sequence, and drops the rest.

@@ -1,5 +1,5 @@
-//! Tests over the public calls of all crates, of what tables of cases can't show: bounds that a caller's own type
-//! meets, readers and writers that fail, iterators, equality, copies, conversions and refusals.
+//! Tests of the public calls of all crates, for properties that tables of cases can't show: bounds that a caller's own
+//! type meets, readers and writers that fail, iterators, equality, copies, conversions and refusals.
 //!
 //! - `attribute_runs`: edits of runs against a plain list of the columns' attributes.
 //! - `attributes`: defaults, order, conversions, copies and equality of attributes, changes, cells and ranges.
@@ -9,19 +9,19 @@
 //! - `clustered_rows`: edits of a row against the same edits of a vector of cells.
 //! - `clusters`: clusters of some of a line's cells, and copies of them.
 //! - `colors`: conversions and hashes of colours, hashes of enums.
-//! - `commands`: commands without parts, what is written after other bytes, commands that differ, and all
+//! - `commands`: commands without parts, commands that are appended to other bytes, commands that differ, and all
 //!   selections.
 //! - `debugs`: `Debug`: the whole text of plain values, and of those with private fields how it begins.
 //! - `formats`: screens of one row in each format.
-//! - `grids`: what the lines of grids show after some changes.
+//! - `grids`: the texts of the lines of grids after some changes.
 //! - `large`: large inputs of a terminal: chunks of 5 KB and 1 MB in one call, a held run, a command, replies
 //!   and a list as long.
-//! - `large_screens`: screens of 300 columns and 100 rows: updates, patches, another size, and long lines.
+//! - `large_screens`: screens of 300 columns and 100 rows: updates, patches, a new size, and long lines.
 //! - `large_streams`: large inputs of parsers and lists, and of `run` and `show`.
-//! - `left_early`: parsers of which pieces were dropped before their end.
+//! - `left_early`: parsers whose pieces were dropped before their end.
 //! - `line_forms`: a line in each of its forms: of cells, clustered, and opened to cells again.
 //! - `lines`: equality and copies of lines, cells that are lent from texts, iterators at their end, and
-//!   callbacks that are asked of texts.
+//!   callbacks that are called with texts.
 //! - `partial`: readers and writers that give and take a few bytes at a time, and fail.
 //! - `pieces`: texts that are lent and actions between them, pieces that are left before their end, and parsers
 //!   that have failed.
@@ -29,8 +29,8 @@
 //! - `prefixes`: copies of the control sequence at the start of some bytes.
 //! - `recorded`: small recordings of both versions, whole, torn and wrong; and a large one; and times.
 //! - `renderings`: the bytes that are written for a change.
-//! - `scripts`: random scripts of changes on a small surface, beside a plain program that draws them column by
-//!   column.
+//! - `scripts`: random scripts of changes on a small surface, against a plain program that draws them column
+//!   by column.
 //! - `sequences`: iterators at their end, defaults and equality of control sequences.
 //! - `service`: `show` on readers and writers that give and take a few bytes at a time, and fail.
 //! - `streams`: callbacks, copies of actions, the bytes that are controls, and framers that have not failed.

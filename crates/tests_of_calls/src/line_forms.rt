@@ -140,7 +140,7 @@ fn forms_of_cells_that_stay_two_are_equal(rt: HostRuntime) {
     assert!(rt; are_equal(&rt, &line, &plain_line(&rt, "e\u{301} "), false));
 }
 
-// Whether each form of the line of a text differs from each form of a line with these columns.
+// Whether each form of the line of a text differs from each form of another line.
 fn differs<R: Abort + AllocGlobal>(rt: &R, text: &str, other: &Line) -> bool {
     are_equal(rt, &plain_line(rt, text), other, false)
 }
@@ -199,7 +199,7 @@ fn lines_of_other_numbers_or_bits_differ(rt: HostRuntime) {
     assert!(rt; differs(&rt, "a\u{304b}", &wrapped));
 }
 
-// Whether the line of a text after that of another is the same in each form of both.
+// Whether the line of `first` with the line of `second` appended is the line of `whole`, in each form of both.
 fn joins<R: Abort + AllocGlobal>(rt: &R, first: &str, second: &str, whole: &str) -> bool {
     let expected = plain_line(rt, whole);
     let mut does = true;

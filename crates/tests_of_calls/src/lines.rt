@@ -1,5 +1,5 @@
-//! Equality and copies of lines, cells that are lent from texts, iterators at their end, and callbacks that are asked
-//! of texts. か has width 2.
+//! Equality and copies of lines, cells that are lent from texts, iterators at their end, and callbacks that are called
+//! with texts. か has width 2.
 ghost use Rattle.std.specs.Prelude.{◌≡◌, not};
 ghost use Rattle.std.specs.Str.{bytes_eq};
 ghost use Rattle.cell_base.specs.Row.{space};
@@ -18,7 +18,7 @@ fn cell_of<R: Abort + AllocGlobal>(rt: &R, text: &str) -> Cell {
     Cell::new_grapheme(rt.alloc(), text, attrs, &ProgramWidth).expect(rt, "memory")
 }
 
-// A caller that knows what its closure answers knows the range.
+// A caller that knows its closure's answers can state the range in a contract.
 fn range_at(line: &Line, column: usize) -> DoubleClickRange
     ensures { result ≡ double_click_range (λ text. not (bytes_eq text space)) column line.now.columns }
 {
@@ -48,12 +48,12 @@ fn visible_cells_end(rt: HostRuntime) {
     assert!(rt; cells.next().is_none());
 }
 
-// Whether the cell has that first column, width and text.
+// Whether the cell has this first column, width and text.
 fn is_cell(cell: &CellRef<'_>, column: usize, width: usize, text: &str) -> bool {
     cell.cell_index() == column && cell.width() == width && cell.str() == text
 }
 
-// Whether a copy of the cell has that width and text.
+// Whether a copy of the cell has this width and text.
 fn copy_is<R: Abort + AllocGlobal>(rt: &R, cell: &CellRef<'_>, width: usize, text: &str) -> bool {
     let copy = cell.as_cell(rt.alloc()).expect(rt, "memory");
     copy.width() == width && copy.str() == text
@@ -96,7 +96,7 @@ fn copied_lines_have_their_attributes(rt: HostRuntime) {
     assert!(rt; copy.get_cell(0).expect(&rt, "cell").attrs().italic());
 }
 
-// A line is the same when it is made small.
+// A line is equal to its copy after `compress_for_scrollback`.
 fn assert_compressed<R: Abort + AllocGlobal>(rt: &R, text: &str) {
     let line = line_of(rt, text);
     let mut compressed = line.try_clone().expect(rt, "memory");

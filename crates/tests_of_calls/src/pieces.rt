@@ -1,14 +1,14 @@
 //! Texts that are lent and actions between them, pieces that are left before their end, and parsers that have failed.
 use escape_stream::{Action, ControlCode, ParseError, Parser, Piece};
 
-// Whether the bytes give this text alone.
+// Whether the bytes give this text as their only piece.
 fn gives_text(parser: &mut Parser, bytes: &[u8], text: &str) -> bool {
     let mut pieces = parser.pieces(bytes);
     let first = matches!(pieces.next(), Some(Ok(Piece::Text(shown))) if shown == text);
     first && pieces.next().is_none()
 }
 
-// Whether the bytes give nothing.
+// Whether the bytes give no piece.
 fn gives_nothing(parser: &mut Parser, bytes: &[u8]) -> bool {
     parser.pieces(bytes).next().is_none()
 }
@@ -18,7 +18,7 @@ fn takes_one(parser: &mut Parser, bytes: &[u8]) -> bool {
     parser.pieces(bytes).next().is_some()
 }
 
-// Whether the bytes give the refusal of a parser that has failed, and then nothing.
+// Whether the bytes give the refusal of a parser that has failed, and then no piece.
 fn is_refused(parser: &mut Parser, bytes: &[u8]) -> bool {
     let mut pieces = parser.pieces(bytes);
     let refused = matches!(pieces.next(), Some(Err(ParseError::Failed)));

@@ -79,7 +79,7 @@ fn reads_both_versions(rt: HostRuntime) {
     assert_reads(&rt, "a\r\n{\n", "9x2\n0 writes a\r\n{\n\n");
 }
 
-// A line after the header of version 2 is wrong in that way.
+// This line, in a recording of version 2, has this fault.
 fn assert_wrong<R: Abort + AllocGlobal>(rt: &R, line: &str, fault: &str) {
     let alloc = rt.alloc();
     let header = r#"{"version":2,"width":1,"height":2}"#;

@@ -20,7 +20,7 @@ fn writes<R: Abort + AllocGlobal>(rt: &R, change: &Change, bytes: &str) -> bool 
     }
 }
 
-// Whether it has no spelling.
+// Whether a change has no encoding.
 fn is_refused<R: Abort + AllocGlobal>(rt: &R, change: &Change) -> bool {
     let rendered = render(rt.alloc(), change, 4, 3);
     matches!(rendered, Err(RenderError::NoSpelling)) && !has_encoding(change, 4, 3)

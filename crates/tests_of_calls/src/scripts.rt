@@ -1,4 +1,4 @@
-//! Random scripts of changes on a small surface, beside a plain program that draws them column by column.
+//! Random scripts of changes on a small surface, against a plain program that draws them column by column.
 use cell_surface::{Change, ColorAttribute, Position, ProgramWidth, Surface};
 use std::alloc::Global;
 
@@ -19,7 +19,7 @@ struct Drawing {
     row: usize,
 }
 
-// A column that is named by its distance from the start, the end or the cursor.
+// The column at a distance from the start, the end or the cursor.
 fn column_from(from: usize, position: Position) -> usize {
     match position {
         Position::Absolute(WIDTH) => WIDTH,
@@ -68,7 +68,7 @@ impl Drawing {
         }
     }
 
-    // Rows of a region move, and blank ones come.
+    // The rows of a region move up or down, and blank rows take their place.
     fn scroll(&mut self, first: usize, size: usize, count: usize, up: bool) -> Option<()> {
         let end = first.saturating_add(size).min(HEIGHT);
         let mut columns = Vec::new(self.alloc);
@@ -141,7 +141,7 @@ impl Drawing {
         self.clear_below();
     }
 
-    // Does what the change does.
+    // Draws a change.
     fn draw(&mut self, change: &Change) -> Option<()> {
         match change {
             Change::Text(text) => self.text(text.as_str())?,
@@ -183,7 +183,7 @@ impl Drawing {
     }
 }
 
-// The row that comes to another one; one past the last where it becomes blank.
+// The row whose text moves to `row`; `HEIGHT`, past the last row, where `row` becomes blank.
 fn source(row: usize, first: usize, end: usize, count: usize, up: bool) -> usize {
     let below = row.saturating_add(count);
     if row < first || end <= row {
@@ -268,7 +268,7 @@ impl Random {
     }
 }
 
-// Draws random changes on both, and tells whether they show the same after each.
+// Draws random changes on a surface and on a drawing; returns whether they show the same after each.
 fn are_alike(alloc: Global, seed: u64, count: u32) -> Option<bool> {
     let mut random = Random { state: seed };
     let mut surface = Surface::new(alloc, WIDTH, HEIGHT, ProgramWidth).ok()?;

@@ -17,7 +17,7 @@ fn input_in(most: usize, reads_left: usize) -> Chunks {
     }
 }
 
-/// What `show` answers and writes on 4x3.
+/// The result of `show` on 4 columns and 3 rows, and the bytes that it writes.
 fn shown(alloc: Global, mut chunks: Chunks, mut sink: Sink) -> (Result<(), RunError>, Vec<u8>) {
     let result = {
         let mut reader = Watched::new(&mut chunks);

@@ -9,7 +9,7 @@ use std::fmt::Display;
 use std::process::Abort;
 use terminal::{RenderError, RunError, TerminalError};
 
-// A value prints as that text.
+// A value prints as this text.
 fn assert_prints<R: Abort + AllocGlobal, T: Display>(rt: &R, value: &T, want: &str) {
     let text = value.to_string(rt.alloc()).expect(rt, "memory");
     assert_eq!(rt; text.as_str(), want);

@@ -6,11 +6,11 @@ use terminal::{ProgramWidth, RunError, Watched, run};
 
 const INPUT: &[u8] = b"abc";
 
-// The update after `ab`, and that at the end.
+// The update after `ab`, and the update at the end.
 const UPDATES: &[u8] =
     b"\x1b[?25l\x1b[0m\x1b]8;;\x1b\\\x1b[2J\x1b[1;1H\x1b]2;\x1b\\ab\0\x1b[1;3H\x1b[?25hc\0";
 
-// How many bytes the first of them has.
+// How many bytes the first update has.
 const FIRST: usize = UPDATES.len() - 2;
 
 fn input_in(most: usize, reads_left: usize) -> Chunks {
@@ -21,7 +21,7 @@ fn input_in(most: usize, reads_left: usize) -> Chunks {
     }
 }
 
-/// What `run` answers and writes on 4x1 with a look after each two bytes.
+/// The result of `run` on 4 columns and 1 row with an update after every two bytes, and the bytes that it writes.
 fn ran(alloc: Global, mut chunks: Chunks, mut sink: Sink) -> (Result<(), RunError>, Vec<u8>) {
     let result = {
         let mut reader = Watched::new(&mut chunks);
@@ -49,7 +49,7 @@ fn is_part(text: &[u8], count: usize) -> bool {
     text.len() == count && UPDATES.starts_with(text)
 }
 
-/// Where a read fails, the first `count` bytes of the updates are written: those of what was read, except the last.
+/// Where a read fails, the first `count` bytes of the updates are written: those of the full chunks that were read.
 fn assert_unread<R: Abort + AllocGlobal>(rt: &R, chunks: Chunks, count: usize) {
     let (result, text) = ran(rt.alloc(), chunks, sink_of(rt.alloc(), 100, 100, 2));
     assert_eq!(rt; result, Err(RunError::Read));

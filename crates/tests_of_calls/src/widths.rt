@@ -44,7 +44,7 @@ fn cells_of_own_widths(rt: HostRuntime) {
     assert_eq!(rt; cell.str(), "e");
 }
 
-// The column that a text leads to, whatever the widths.
+// The cursor is in this column after an input, with these widths.
 fn assert_leads_to<R: Abort + AllocGlobal, W: Widths + Drop>(
     rt: &R,
     widths: W,
@@ -85,8 +85,8 @@ fn assert_viewed<R: Abort + AllocGlobal, W: Widths + Drop + Copy>(rt: &R, widths
     assert_eq!(rt; viewer.surface().cursor_position().0, column);
 }
 
-// A viewer of the same widths that reads the patch from what it shows then shows the same row; the patch has `count`
-// bytes.
+// A viewer of the same widths that reads the patch from its own screen shows the terminal's row then; the patch has
+// `count` bytes.
 fn assert_patched<R: Abort + AllocGlobal, W: Widths + Drop + Copy>(
     rt: &R,
     widths: W,
@@ -125,8 +125,8 @@ fn viewers_of_own_widths(rt: HostRuntime) {
     assert_viewed(&rt, Single, b"\xe3\x81\x8babc");
 }
 
-// Beside what is printed with a NUL after it a patch has a title of 6 bytes, two positions of 6, two pens of 11 and the
-// cursor of 6; where nothing is printed one position and one pen.
+// Besides its printed text and a NUL a patch has a title of 6 bytes, two positions of 6, two pens of 11 and the
+// cursor's visibility of 6; where nothing is printed, one position and one pen.
 #[test]
 fn patches_of_own_widths(rt: HostRuntime) {
     assert_patched(&rt, ProgramWidth, b"abcd", b"axcd\x1b[1;1H", 46 + 2);

@@ -43,12 +43,12 @@ is_independent c =
 abbrev pub is_flag_half : ℕ → Bool
 is_flag_half c = is_in_range 0x1F1E6 0x1F1FF c
 
--- the characters are none, or begin with one that joins no independent character before it
+-- the list is empty, or begins with a character that joins no independent character before it
 abbrev pub is_independent_first : List ℕ → Bool
 is_independent_first [] = true
 is_independent_first (c ∷ cs) = is_independent c || is_flag_half c
 
--- nothing at the start of the text joins an independent character before it
+-- the text is empty, or begins with a character that joins no independent character before it
 unfoldable pub begins_independent : List ℕ → Bool
 begins_independent text = is_independent_first (chars text)
 

@@ -6,10 +6,11 @@ use Rattle.std.specs.List.{prefix_len}
 abbrev pub is_printable : ℕ → Bool
 is_printable byte = nat_le 32 byte && nat_lt byte 127
 
--- each byte as a text
+-- each byte as a text of one character
 abbrev pub each : List ℕ → List (List ℕ)
 each bytes = map (λ byte. byte ∷ []) bytes
 
--- the length of the printable prefix, less the last character where another one follows, which may join it
+-- the length of the printable prefix, less its last character where another character follows the prefix: that may
+-- join the last character
 abbrev pub plain_len : List ℕ → ℕ
 plain_len text = let run = prefix_len is_printable text in if run == length text then run else run - 1

@@ -22,8 +22,9 @@ pub fn clusters_after_clusters(text: &str)
     let _text = text;
 }
 
-/// Where a text begins with printable ASCII characters, each of them that another one follows is a
-/// cluster by itself, and the clusters of the rest follow; and so is each of a text of nothing else.
+/// At the start of a text, each printable ASCII character that another one follows is a cluster by
+/// itself, and the clusters of the rest of the text follow. In a text of printable ASCII characters
+/// only, each character is a cluster by itself.
 pub fn plain_clusters()
     ensures followed { (count : ℕ) (text : List ℕ) → count < prefix_len is_printable text
         → graphemes true text ≡ each (take count text) ++ graphemes true (drop count text) }
@@ -31,8 +32,8 @@ pub fn plain_clusters()
 {}
 
 /// Letters, ideographs, syllables and signs are independent: each of these characters is a cluster by
-/// itself where `begins_independent` holds for the rest of the text: it is empty, or begins with
-/// another one or with half of a flag.
+/// itself where `begins_independent` holds for the rest of the text: the rest is empty, or begins with
+/// another independent character or with half of a flag (a regional indicator).
 pub fn clusters_independent(text: &str)
     ensures { (first : ℕ) (rest : List ℕ) → text.now ≡ encode_utf8 first ++ rest → is_independent first ≡ true
         → begins_independent rest ≡ true → graphemes true text.now ≡ encode_utf8 first ∷ graphemes true rest }

@@ -65,8 +65,9 @@ fn plain_len(text: &str, most: usize) -> usize
 }
 
 /// Cuts a text after its plain prefix, or after `most` bytes of it: printable ASCII characters (20h
-/// to 7Eh), each of which is a cluster by itself. The last of them goes to the rest where another
-/// character follows it, which may join it. The function reads at most `most` bytes and one.
+/// to 7Eh), each of which is a cluster by itself. The last of them goes to the rest where a character
+/// that is not printable ASCII follows it, since that may join it. The function reads at most
+/// `most` + 1 bytes.
 pub fn split_plain(text: &str, most: usize) -> (&str, &str)
     ensures prefix { result.0.now ≡ take (min most (plain_len text.now)) text.now }
     ensures rest { result.1.now ≡ drop (min most (plain_len text.now)) text.now }

@@ -11,7 +11,7 @@ use crate::visible_cells::{ClusteredLeft, Left, VisibleCellIter};
 use cell_base::CellAttributes;
 
 impl<'a> ClusteredLeft<'a> {
-    // Takes the next printable ASCII characters, as the row gives them; none of the half.
+    // Takes the next printable ASCII characters of the row, as `ClusteredCells::pass_plain` does; it leaves the half.
     fn pass_plain(&mut self, most: usize) -> Option<(&'a str, &'a CellAttributes)>
         ensures left { MatchOption result (left_of_clustered self.new ≡ left_of_clustered self.old)
             (λ run. left_of_clustered self.old
@@ -26,8 +26,8 @@ impl<'a> ClusteredLeft<'a> {
 
 impl<'a> VisibleCellIter<'a> {
     /// Takes the next printable ASCII characters (20h to 7Eh), at most `most`, as far as each is a cell of one column,
-    /// all have the same attributes, and they are kept side by side. `None`: the next cell is another one, `most` is
-    /// 0, or no cell is left.
+    /// all have the same attributes, and they are kept side by side. `None`: the next cell is no such character,
+    /// `most` is 0, or no cell is left.
     pub fn pass_plain(&mut self, most: usize) -> Option<(&'a str, &'a CellAttributes)>
         ensures left { MatchOption result (cells_left self.new ≡ cells_left self.old)
             (λ run. cells_left self.old
@@ -44,8 +44,8 @@ impl<'a> VisibleCellIter<'a> {
 
 impl<'a> RegionIter<'a> {
     /// Takes the next printable ASCII characters (20h to 7Eh), at most `most`, as far as each is a cell of one column,
-    /// all have the same attributes, and they are kept side by side. `None`: the next cell is another one, `most` is
-    /// 0, or no cell is left.
+    /// all have the same attributes, and they are kept side by side. `None`: the next cell is no such character,
+    /// `most` is 0, or no cell is left.
     pub fn pass_plain(&mut self, most: usize) -> Option<(&'a str, &'a CellAttributes)>
         ensures left { MatchOption result (region_left self.new ≡ region_left self.old)
             (λ run. region_left self.old

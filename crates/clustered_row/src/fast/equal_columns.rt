@@ -74,7 +74,8 @@ fn equal_sizes(sizes: &[CellSize], other: &[CellSize]) -> usize
     most
 }
 
-// How many columns two runs have in common, side by side.
+// How many columns two runs share where both begin, or both end, at the same column: those of the shorter run if their
+// attributes are equal, and otherwise none.
 pub(crate) fn equal_part(run: &Run, other: &Run) -> usize
     ensures within { result ≤ run.now.count }
     ensures other_within { result ≤ other.now.count }
@@ -113,7 +114,7 @@ fn fits(size: CellSize, bytes: usize, columns: usize) -> bool
     size.len <= bytes && size.columns() <= columns
 }
 
-// The position after as many of the first `count` cells as have at most `bytes` bytes and `columns` columns.
+// The position after as many of the first `count` cells as together have at most `bytes` bytes and `columns` columns.
 fn position_within(sizes: &[CellSize], count: usize, bytes: usize, columns: usize) -> Position
     requires { count ≤ length sizes.now }
     ensures position { IsPosition sizes.now result }
@@ -145,7 +146,8 @@ impl Runs {
 }
 
 impl CutText {
-    // The position after as many of the first `count` cells as have at most `bytes` bytes and `columns` columns.
+    // The position after as many of the first `count` cells as together have at most `bytes` bytes and `columns`
+    // columns.
     fn position_within(&self, count: usize, bytes: usize, columns: usize) -> Position
         requires { count ≤ length self.now.sizes.items }
         ensures position { IsPosition self.now.sizes.items result }

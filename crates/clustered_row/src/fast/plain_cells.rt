@@ -11,8 +11,8 @@ use cell_base::CellAttributes;
 
 impl<'a> ClusteredCells<'a> {
     /// Takes the next printable ASCII characters (20h to 7Eh), at most `most`, as far as each is a cell of one column
-    /// and all have the same attributes; a blank counts as a space. `None`: the next cell is another one, `most` is 0,
-    /// or no cell is left.
+    /// and all have the same attributes; a blank counts as a space. `None`: the next cell is no such character, `most`
+    /// is 0, or no cell is left.
     pub fn pass_plain(&mut self, most: usize) -> Option<(&'a str, &'a CellAttributes)>
         ensures left { MatchOption result (cells_left self.new ≡ cells_left self.old) (λ run.
             cells_left self.old ≡ visible_each (next_column self.old) run.0.now run.1.now ++ cells_left self.new) }

@@ -11,8 +11,8 @@ use cell_base::Widths;
 use std::alloc::AllocError;
 use text_clusters::{begins_independent, begins_printable, first_character, is_independent};
 
-// The first character of a text, where it is independent: of how many bytes it is, and how many columns it takes by
-// itself, of which none count as one.
+// The first character of a text, where it is independent: its length in bytes, and the columns that it takes by
+// itself, where 0 counts as 1.
 #[inline(always)]
 fn first_single<W: Widths>(text: &str, w: &W) -> Option<(usize, usize)>
     ensures single { IfSome result (λ first. BeginsSingle (W.width_of w.now) text.now first.0 first.1) }
@@ -42,8 +42,8 @@ fn after(text: &str, len: usize) -> &str
     rest
 }
 
-// Writes the sizes of the cells at the start of a text, of which each is one character that is a cluster by itself, as
-// far as they fit in `room` columns. Returns how many columns they take, and the rest of the text. Each character is
+// Writes the sizes of the cells at the start of a text, each of one character that is a cluster by itself, as far as
+// they fit in `room` columns. Returns how many columns they take, and the rest of the text. Each character is
 // decoded once.
 pub(crate) fn single_cells<'a, W: Widths>(
     sizes: &mut Vec<CellSize>,

@@ -11,7 +11,7 @@ use crate::texts::after;
 impl Framer {
     /// The operating system command at the start of some bytes of one call, where nothing is unfinished, the bytes
     /// decide it, and no byte of it is a control or a C2: its body, and how many bytes `next` would have read at its
-    /// event, of which an ESC that ends it is none. The framer needs no change for it: the caller goes on after these
+    /// event, without an ESC that ends it. The framer needs no change for this command: the caller goes on after these
     /// bytes. `None`: take the general way.
     #[inline(always)]
     pub fn whole_command<'a>(&self, bytes: &'a [u8]) -> Option<(&'a [u8], usize)>

@@ -20,7 +20,8 @@ use cell_line::{CellRef, RegionIter};
 use std::alloc::AllocError;
 
 impl<'a> ShownCells<'a> {
-    /// Passes the next plain cells, at most `most`. `None`: take the general way.
+    /// Passes the next plain cells, at most `most`, and returns their text and their attributes. `None`: take the
+    /// general way.
     pub(crate) fn pass_plain(&mut self, most: usize) -> Option<(&'a str, &'a CellAttributes)>
         requires { Fits self.old }
         ensures left { MatchOption result (shown_left self.new ≡ shown_left self.old) (λ run.
@@ -70,7 +71,7 @@ fn write_differing<'a>(
     writer.push_plain(row, column + from, after(text, from), attrs)
 }
 
-// Writes the fresh ones of plain cells, where as many old plain cells are.
+// Writes the fresh cells among plain new cells, where as many plain old cells are in the same columns.
 fn write_run<'a>(
     writer: &mut DifferenceWriter<'a>,
     row: usize,
@@ -94,8 +95,8 @@ fn write_run<'a>(
     Ok(())
 }
 
-// Writes the fresh ones of plain cells at the start of a text, where no old cell begins before them. Returns how many
-// were compared.
+// Writes the fresh cells among plain new cells at the start of a text, where no old cell begins before them. Returns
+// how many cells were compared.
 fn write_there<'a>(
     writer: &mut DifferenceWriter<'a>,
     row: usize,
@@ -131,7 +132,7 @@ fn write_there<'a>(
     Ok(1)
 }
 
-// Writes the fresh ones of plain cells at the start of a text. Returns how many were compared.
+// Writes the fresh cells among plain new cells at the start of a text. Returns how many cells were compared.
 fn write_stretch<'a>(
     writer: &mut DifferenceWriter<'a>,
     row: usize,
@@ -161,7 +162,7 @@ fn write_stretch<'a>(
     Ok(compared)
 }
 
-// Writes the fresh ones of plain cells, side by side from a column on.
+// Writes the fresh cells among plain new cells, which are side by side from a column on.
 fn write_text<'a>(
     writer: &mut DifferenceWriter<'a>,
     row: usize,
@@ -188,7 +189,7 @@ fn write_text<'a>(
     Ok(())
 }
 
-/// Writes the fresh ones of the next remaining cells, as many plain ones as come next. Returns how many columns they
+/// Writes the fresh cells among the next new cells, where these are plain. Returns how many columns the plain cells
 /// take. `None`: take the general way.
 pub(crate) fn write_plain<'a>(
     writer: &mut DifferenceWriter<'a>,

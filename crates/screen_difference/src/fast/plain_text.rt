@@ -3,7 +3,7 @@ ghost use Rattle.std.specs.Prelude.{◌≡◌, ◌-◌, ◌≤◌, true, drop, l
 ghost use Rattle.std.specs.List.{list_all};
 ghost use Rattle.text_clusters.specs.Plain.{is_printable};
 
-/// The characters from one on.
+/// The characters from index `start` on.
 pub(crate) fn after(text: &str, start: usize) -> &str
     requires printable { list_all is_printable text.now ≡ true }
     requires within { start ≤ length text.now }
@@ -23,7 +23,7 @@ pub(crate) fn prefix(text: &str, count: usize) -> &str
     &text[..count]
 }
 
-/// The characters from one on and before another.
+/// The characters from index `start` on and before index `stop`.
 pub(crate) fn part(text: &str, start: usize, stop: usize) -> &str
     requires printable { list_all is_printable text.now ≡ true }
     requires order { start ≤ stop }

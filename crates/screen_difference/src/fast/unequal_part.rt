@@ -5,8 +5,9 @@ ghost use Rattle.screen_difference.specs.ShownCells.{columns_fresh};
 use cell_line::Line;
 use cell_line::fast::unequal_columns::unequal_columns;
 
-// How many of the first columns of a part the caller skips, and how many it then compares: outside of these, lines that
-// are in the same columns show the same. `None`: take the general way, which compares all `count` columns.
+// How many of the first columns of a part the caller skips, and how many it then compares: in all other columns of the
+// part both lines show the same. `None`, also where the parts begin in different columns: take the general way, which
+// compares all `count` columns.
 pub(crate) fn unequal_part(
     x: usize,
     old: &Line,

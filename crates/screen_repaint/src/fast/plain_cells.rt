@@ -11,8 +11,8 @@ use cell_line::VisibleCellIter;
 use screen_change::CellWriter;
 use std::alloc::AllocError;
 
-// Writes the next of the remaining cells, as many as are one text and at most `most`. Returns how many. `None`: take
-// the general way.
+// Writes the next of the remaining cells, as many as `pass_plain` passes and at most `most`. Returns how many. `None`:
+// take the general way.
 pub(crate) fn write_plain<'a>(
     writer: &mut CellWriter<'a>,
     cells: &mut VisibleCellIter<'a>,
@@ -37,7 +37,7 @@ fn spaces_at_end(text: &str) -> usize
     from_end.take_while(|byte| **byte == b' ').count()
 }
 
-// How many cells of a text, one for each of its bytes, are blanks at the end.
+// How many blanks there are at the end of the cells of a text, one for each byte.
 fn blanks_at_end(text: &str, attrs: &CellAttributes) -> usize
     ensures { result ≡ blanks_at_end text.now attrs.now }
 {
@@ -49,7 +49,8 @@ fn blanks_at_end(text: &str, attrs: &CellAttributes) -> usize
 }
 
 impl<'a> RowEnd<'a> {
-    // Adds the next of the remaining cells, as many as are one text. Returns how many. `None`: take the general way.
+    // Adds the next of the remaining cells, as many as `pass_plain` passes. Returns how many. `None`: take the general
+    // way.
     pub(crate) fn push_plain(&mut self, cells: &mut VisibleCellIter<'a>) -> Option<usize>
         requires { self.old.cells + length (cells_left cells.old) < 2 ^ 64 }
         ensures { MatchOption result
@@ -63,14 +64,14 @@ impl<'a> RowEnd<'a> {
     }
 }
 
-// Whether a text is spaces alone.
+// Whether a text consists of spaces.
 fn is_spaces(text: &str) -> bool
     ensures { result ≡ list_all (λ byte. byte == 32) text.now }
 {
     text.as_bytes().iter().all(|byte| *byte == b' ')
 }
 
-// Passes the next of the remaining cells, as many as are one text. Returns whether they are spaces with these
+// Passes the next of the remaining cells, as many as `pass_plain` passes. Returns whether they are spaces with these
 // attributes. `None`: take the general way.
 pub(crate) fn pass_plain_spaces(
     cells: &mut VisibleCellIter<'_>,
