@@ -182,7 +182,7 @@ fn digits(number: u8) -> (u8, u8, u8)
 #[inline(always)]
 fn digit_count(number: u8) -> usize
     ensures same { result ≡ length (decimal number) }
-    ensures few { result ≤ 3 }
+    ensures short { result ≤ 3 }
 {
     if number < 10 {
         1

@@ -125,8 +125,8 @@ fn moved(alloc: Global) -> Outcome {
 }
 
 /// Whether both lists have the same changes.
-pub fn are_equal(changes: &[Change], remaining: &[Change]) -> bool {
-    changes == remaining
+pub fn are_equal(changes: &[Change], others: &[Change]) -> bool {
+    changes == others
 }
 
 // Whether a sequence is that of the text and of the first changes of the list.
@@ -139,8 +139,8 @@ fn has_first(alloc: Global, sequence: Plain) -> Outcome {
         other.add(change_of(alloc, kind)?)?;
     }
     let is_there = other.current_cursor_position() == position && other.render_height() == height;
-    let remaining = other.consume();
-    Ok(is_there && changes.len() <= CHANGES && are_equal(&changes, &remaining))
+    let others = other.consume();
+    Ok(is_there && changes.len() <= CHANGES && are_equal(&changes, &others))
 }
 
 // A list that is added, and a copy; where it is refused, the changes before are added.

@@ -178,10 +178,10 @@ fn lent_for_attributes(line: &mut Line) -> Result<usize, AllocError> {
 // Cells that are lent to be written.
 fn lent_cells(alloc: Global) -> Outcome {
     let mut line = line_of(alloc, "a\u{304b}b", NUMBER)?;
-    let (Ok(count), Ok(remaining)) = (lent(&mut line), lent_for_attributes(&mut line)) else {
+    let (Ok(count), Ok(other_count)) = (lent(&mut line), lent_for_attributes(&mut line)) else {
         return refused(Stop::Memory, stands(&line));
     };
-    Ok(count == 4 && remaining == 4)
+    Ok(count == 4 && other_count == 4)
 }
 
 // Links of a line that were found in its text.

@@ -96,10 +96,10 @@ fn are_two(clusters: &[CellCluster]) -> Outcome {
 fn clusters(alloc: Global) -> Outcome {
     let line = line_of(alloc, "ab c\u{304b}", 2)?;
     let clusters = line.cluster()?;
-    let remaining = CellCluster::make_cluster(alloc, 8, line.visible_cells())?;
+    let made = CellCluster::make_cluster(alloc, 8, line.visible_cells())?;
     all(&[
         are_two(&clusters),
-        are_two(&remaining),
+        are_two(&made),
         is_line(&line, "ab c\u{304b}", 2),
     ])
 }

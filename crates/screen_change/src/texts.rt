@@ -47,7 +47,7 @@ fn are_bytes(text: &str) -> bool
 // The largest number of cells tested together.
 const TESTED: usize = 32;
 
-// The first `SHORT` lengths, or all if there are fewer.
+// The first `TESTED` lengths, or all if there are fewer.
 #[tactic(auto, using(std::proofs::lemmas::List::take_min))]
 fn first_tested(lens: &[usize]) -> &[usize]
     ensures { result.now ≡ take TESTED lens.now }
@@ -62,7 +62,7 @@ fn ones(lens: &[usize]) -> usize
     lens.iter().take_while(|len| **len == 1).count()
 }
 
-// Drops plain cells at the start of a text, at most `SHORT` of them, and their lengths; returns the rest of both.
+// Drops plain cells at the start of a text, at most `TESTED` of them, and their lengths; returns the rest of both.
 fn after_plain<'a>(text: &'a str, lens: &'a [usize]) -> (&'a str, &'a [usize])
     requires { bytes_of lens.now ≤ length text.now }
     ensures fewer { length result.1.now ≤ length lens.now }

@@ -120,11 +120,11 @@ kept_on closed again a b c (inr p) (inr q) = inr (q ∙ ap closed p ∙ again a)
 record Leaves (x n : ℕ) (cells : List VisibleCell) (row after : Row) : Type 0 where
   part : columns_from x n after ≡ fold (λ r v. set_columns r (v.column - x) (cell_columns v.cell)) (columns_from x n row) cells
   prefix : IsKept closed_end (take x row) (take x after)
-  back : IsKept closed_start (drop (x + n) row) (drop (x + n) after)
+  suffix : IsKept closed_start (drop (x + n) row) (drop (x + n) after)
   width : length after ≡ length row
 
 all_leave : (width_of : List ℕ → ℕ) (x n : ℕ) (cells : List VisibleCell) (row : Row) → x + n ≤ length row → AllStand width_of x (x + n) cells → Leaves x n cells row (fold set_visible row cells)
-all_leave width_of x n [] row h p = record { part = refl; prefix = inl refl; back = inl refl; width = refl }
+all_leave width_of x n [] row h p = record { part = refl; prefix = inl refl; suffix = inl refl; width = refl }
 all_leave width_of x n (v ∷ cells) row h p =
     let cols : Row = cell_columns v.cell in
     let count = count_is width_of x (x + n) v p.0 in
@@ -140,11 +140,11 @@ all_leave width_of x n (v ∷ cells) row h p =
     let one : columns_from x n (set_visible row v) ≡ set_columns (columns_from x n row) k cols =
     ap (λ c. columns_from x n (set_columns row c cols)) (sym at) ∙ set_in_part x n k row cols (omega arith) h (whole_columns v.cell.text (nat_le 2 v.cell.width) v.cell.attributes) (omega arith) in
     let prefix : IsKept closed_end (take x row) (take x (set_visible row v)) = subst (λ c. IsKept closed_end (take x row) (take x (set_columns row c cols))) at (set_prefix x k row cols (omega arith)) in
-    let back : IsKept closed_start (drop (x + n) row) (drop (x + n) (set_visible row v)) = subst (λ c. IsKept closed_start (drop c row) (drop c (set_visible row v))) stop (set_back v.column m row cols (omega arith)) in
+    let suffix : IsKept closed_start (drop (x + n) row) (drop (x + n) (set_visible row v)) = subst (λ c. IsKept closed_start (drop c row) (drop c (set_visible row v))) stop (set_back v.column m row cols (omega arith)) in
     record {
       part = rest.part ∙ ap (λ (r : Row). fold (λ q w. set_columns q (w.column - x) (cell_columns w.cell)) r cells) one;
       prefix = kept_on closed_end end_again (take x row) (take x (set_visible row v)) (take x (fold set_visible (set_visible row v) cells)) prefix rest.prefix;
-      back = kept_on closed_start start_again (drop (x + n) row) (drop (x + n) (set_visible row v)) (drop (x + n) (fold set_visible (set_visible row v) cells)) back rest.back;
+      suffix = kept_on closed_start start_again (drop (x + n) row) (drop (x + n) (set_visible row v)) (drop (x + n) (fold set_visible (set_visible row v) cells)) suffix rest.suffix;
       width = rest.width ∙ same;
     }
 
@@ -169,13 +169,13 @@ module _ (width_of : List ℕ → ℕ) (blank_is : IsSoundText width_of space fa
       let left = all_leave width_of x n cells old f (fresh_stand x other_x n old new h w s) in record {
         within = ap (λ m. columns_from x m (fold set_visible old cells)) count ∙ left.part ∙ fresh_drawn x olds part (whole_part x n old o) (whole_part other_x n new w) (omega arith);
         prefix = left.prefix;
-        back = subst (λ m. IsKept closed_start (drop (x + m) old) (drop (x + m) (fold set_visible old cells))) (sym count) left.back;
+        suffix = subst (λ m. IsKept closed_start (drop (x + m) old) (drop (x + m) (fold set_visible old cells))) (sym count) left.suffix;
         width = left.width;
       }
 
   none_shown : (x other_x n : ℕ) (old new : Row) → n ≡ 0 → ShowsPart x (columns_from other_x n new) old (fold set_visible old (fresh (visible_from x (columns_from x n old)) (visible_from x (columns_from other_x n new))))
   none_shown x other_x n old new e =
-      let zero_shown : ShowsPart x [] old old = record { within = refl; prefix = inl refl; back = inl refl; width = refl } in
+      let zero_shown : ShowsPart x [] old old = record { within = refl; prefix = inl refl; suffix = inl refl; width = refl } in
       subst (λ m. ShowsPart x (columns_from other_x m new) old (fold set_visible old (fresh (visible_from x (columns_from x m old)) (visible_from x (columns_from other_x m new))))) (sym e) zero_shown
 
   -- a row in which its fresh cells are drawn shows the new one

@@ -13,7 +13,7 @@ IsKept closed before after = (after ≡ before) ⊎ (after ≡ closed before)
 pub record ShowsPart (start : ℕ) (columns before after : Row) : Type 0 where
   pub within : columns_from start (length columns) after ≡ columns
   pub prefix : IsKept closed_end (take start before) (take start after)
-  pub back : IsKept closed_start (drop (start + length columns) before) (drop (start + length columns) after)
+  pub suffix : IsKept closed_start (drop (start + length columns) before) (drop (start + length columns) after)
   pub width : length after ≡ length before
 
 -- the row shows some columns of a new row, from `other_x` on, as far as both rows have them

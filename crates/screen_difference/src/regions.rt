@@ -72,13 +72,13 @@ fn region_changes<'a>(
     y: usize,
     width: usize,
     height: usize,
-    remaining: &'a [Line],
+    other_lines: &'a [Line],
     other_x: usize,
     other_y: usize,
 ) -> Result<Vec<Change>, AllocError>
     ensures { IfOk result
         (λ changes. map value_of changes.items
-        ≡ difference (region_fresh (rows_of lines.now) x y width height (rows_of remaining.now) other_x other_y)) }
+        ≡ difference (region_fresh (rows_of lines.now) x y width height (rows_of other_lines.now) other_x other_y)) }
 {
     let mut writer = DifferenceWriter::new(alloc, attrs);
     let olds = lines_from(lines, y);
@@ -89,7 +89,7 @@ fn region_changes<'a>(
         x,
         olds,
         other_x,
-        lines_from(remaining, other_y),
+        lines_from(other_lines, other_y),
         width,
     )?;
     let changes = writer.finish()?;
@@ -97,7 +97,7 @@ fn region_changes<'a>(
 }
 
 /// The changes that make a region of `lines`, whose top left is at column `x` and row `y`, show what the
-/// region of `remaining`, the new side, at `other_x` and `other_y` shows. Columns and rows that either side
+/// region of `other_lines`, the new side, at `other_x` and `other_y` shows. Columns and rows that either side
 /// lacks are left out, and a cell that an edge cuts counts as a blank with its attributes.
 pub fn diff_region(
     alloc: Global,
@@ -106,17 +106,26 @@ pub fn diff_region(
     y: usize,
     width: usize,
     height: usize,
-    remaining: &[Line],
+    other_lines: &[Line],
     other_x: usize,
     other_y: usize,
 ) -> Result<Vec<Change>, AllocError>
     ensures { IfOk result
         (λ changes. map value_of changes.items
-        ≡ difference (region_fresh (rows_of lines.now) x y width height (rows_of remaining.now) other_x other_y)) }
+        ≡ difference (region_fresh (rows_of lines.now) x y width height (rows_of other_lines.now) other_x other_y)) }
 {
     let attrs = CellAttributes::blank();
     let changes = region_changes(
-        alloc, &attrs, lines, x, y, width, height, remaining, other_x, other_y,
+        alloc,
+        &attrs,
+        lines,
+        x,
+        y,
+        width,
+        height,
+        other_lines,
+        other_x,
+        other_y,
     )?;
     Ok(changes)
 }
@@ -126,30 +135,30 @@ fn line_changes<'a>(
     alloc: Global,
     attrs: &'a CellAttributes,
     lines: &[Line],
-    remaining: &'a [&'a Line],
+    other_lines: &'a [&'a Line],
 ) -> Result<Vec<Change>, AllocError>
     ensures { IfOk result
         (λ changes. map value_of changes.items
-        ≡ difference (lines_fresh (rows_of lines.now) 0 (rows_of (map (λ line. line.now) remaining.now)))) }
+        ≡ difference (lines_fresh (rows_of lines.now) 0 (rows_of (map (λ line. line.now) other_lines.now)))) }
 {
     let mut writer = DifferenceWriter::new(alloc, attrs);
-    write_lines(&mut writer, 0, lines, remaining)?;
+    write_lines(&mut writer, 0, lines, other_lines)?;
     let changes = writer.finish()?;
     Ok(changes)
 }
 
-/// The changes that make the first of `lines` show the lines of `remaining`, which is the new side, line by line.
+/// The changes that make the first of `lines` show the lines of `other_lines`, which is the new side, line by line.
 pub fn diff_lines(
     alloc: Global,
     lines: &[Line],
-    remaining: &[&Line],
+    other_lines: &[&Line],
 ) -> Result<Vec<Change>, AllocError>
     ensures { IfOk result
         (λ changes. map value_of changes.items
-        ≡ difference (lines_fresh (rows_of lines.now) 0 (rows_of (map (λ line. line.now) remaining.now)))) }
+        ≡ difference (lines_fresh (rows_of lines.now) 0 (rows_of (map (λ line. line.now) other_lines.now)))) }
 {
     let attrs = CellAttributes::blank();
-    let changes = line_changes(alloc, &attrs, lines, remaining)?;
+    let changes = line_changes(alloc, &attrs, lines, other_lines)?;
     Ok(changes)
 }
 
@@ -189,16 +198,16 @@ pub fn diff_against_numbered_line(
 }
 
 /// The changes that make the lines of a screen of `width` columns show what the lines of another
-/// screen, `remaining`, show.
+/// screen, `other_lines`, show.
 pub fn diff_screens(
     alloc: Global,
     width: usize,
     lines: &[Line],
-    remaining: &[Line],
+    other_lines: &[Line],
 ) -> Result<Vec<Change>, AllocError>
     ensures { IfOk result
         (λ changes. map value_of changes.items
-        ≡ difference (region_fresh (rows_of lines.now) 0 0 width (length lines.now) (rows_of remaining.now) 0 0)) }
+        ≡ difference (region_fresh (rows_of lines.now) 0 0 width (length lines.now) (rows_of other_lines.now) 0 0)) }
 {
-    diff_region(alloc, lines, 0, 0, width, lines.len(), remaining, 0, 0)
+    diff_region(alloc, lines, 0, 0, width, lines.len(), other_lines, 0, 0)
 }
