@@ -62,7 +62,8 @@ foreground_color a =
 
 -- the background colour; reverse video swaps it with the foreground colour
 abbrev pub background_color : Attributes → Rgb
-background_color a = if a.reverse then color_of default_foreground a.foreground else color_of default_background a.background
+background_color a =
+    if a.reverse then color_of default_foreground a.foreground else color_of default_background a.background
 
 abbrev pub midway : Rgb → Rgb → Rgb
 midway one other = ((one.0 + other.0) / 2, (one.1 + other.1) / 2, (one.2 + other.2) / 2)

@@ -6,7 +6,8 @@ use Rattle.cell_base.specs.Attributes.{Attributes}
 use Rattle.cell_base.specs.Row.{Row}
 use Rattle.cell_base.specs.Screen.{Screen}
 use Rattle.cell_edits.specs.VisibleCells.{visible_cells}
-use Rattle.screen_formats.specs.Colors.{default_background, default_foreground, has_background, hex_color, text_color, background_color}
+use Rattle.screen_formats.specs.Colors.{default_background, default_foreground, has_background, hex_color}
+use Rattle.screen_formats.specs.Colors.{background_color, text_color}
 use Rattle.screen_formats.specs.Links.{link_uri}
 use Rattle.screen_formats.specs.Renditions.{color_style, rendition_style, rendition_words}
 use Rattle.screen_formats.specs.Tokens.{Token, Opening, Closing, Words, element, tokens_text}
@@ -14,7 +15,8 @@ use Rattle.screen_formats.specs.Runs.{Run, runs_of}
 use Rattle.screen_formats.specs.declared.escape.Markup.TheVariants.{Html}
 
 abbrev pub background_style : Attributes → List ℕ
-background_style a = if has_background a then color_style (codes "background-color") (hex_color (background_color a)) else []
+background_style a =
+    if has_background a then color_style (codes "background-color") (hex_color (background_color a)) else []
 
 -- whether a font may draw cells wider or narrower than their columns of digits: cells of two columns, and texts that
 -- aren't printable ASCII

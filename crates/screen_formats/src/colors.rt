@@ -2,7 +2,8 @@
 ghost use Rattle.std.specs.Prelude.{◌≡◌, ◌<◌, slice_index_or, IfOk};
 ghost use Rattle.std.specs.String.{string_bytes};
 ghost use Rattle.screen_formats.specs.Colors.{color_of, default_background, default_foreground, foreground_color, grey};
-ghost use Rattle.screen_formats.specs.Colors.{has_background, hex_color, text_color, level, midway, palette_color, background_color};
+ghost use Rattle.screen_formats.specs.Colors.{background_color, has_background, hex_color, level, midway};
+ghost use Rattle.screen_formats.specs.Colors.{palette_color, text_color};
 ghost use Rattle.screen_formats.specs.Colors.{system_color};
 
 use cell_base::{CellAttributes, ColorAttribute, Intensity};

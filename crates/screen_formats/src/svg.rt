@@ -131,7 +131,8 @@ fn push_background(
     row: usize,
     run: &Run<'_>,
 ) -> Result<(), AllocError>
-    ensures { OnOk result (string_bytes out.new ≡ string_bytes out.old ++ tokens_text Xml (svg_background row run.now)) }
+    ensures { OnOk result
+        (string_bytes out.new ≡ string_bytes out.old ++ tokens_text Xml (svg_background row run.now)) }
 {
     if !has_background(run.attrs) {
         return Ok(());
