@@ -10,7 +10,7 @@ import tempfile
 from dataclasses import dataclass
 from pathlib import Path
 
-from shared import ROOT, crates_below, crates_of, kit_folder
+from shared import ROOT, crates_below, crates_of, kit_folder, static_libraries
 from sources import functions_of, modules_of_types, tokens_of
 
 # The parts of a crate that a check reads.
@@ -88,7 +88,17 @@ class Crate:
         words += [word for name, rlib in externs for word in ("--extern", f"{name}={rlib}")]
         words += [word for it in folders for word in ("-L", f"dependency={it}")]
         words += ["--antt-project", kit / "rattle/logic/antt-project.json", "--logic-built", kit / "logic_built"]
+        words += ["--crate-type", "staticlib"] if self.name in static_libraries() else []
         return [*words, "--links", f"{self.name}=", "--jobs", "1"]
+
+
+def is_of_the_gate(name):
+    """Whether the library is as the gate built it after its last change: from nothing, so without the kit's stamp."""
+    made = ROOT / f"crates/{name}/out/rlib/{name}.rlib"
+    if not made.is_dir() or (made.parent / "stamp").exists():
+        return False
+    files = [it for part in PARTS for it in Path(ROOT, "crates", name, part).rglob("*") if it.is_file()]
+    return max(it.stat().st_mtime for it in files) < made.stat().st_mtime
 
 
 def crates_with_libraries():

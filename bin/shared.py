@@ -28,6 +28,12 @@ def crates_of(root=ROOT):
     return {name.split()[0]: used.split() for name, colon, used in rows if colon}
 
 
+def static_libraries(root=ROOT):
+    """Returns the crates of crates.txt that are static libraries."""
+    heads = [row.split("#")[0].partition(":")[0].split() for row in (root / "crates.txt").read_text().splitlines()]
+    return {words[0] for words in heads if "staticlib" in words}
+
+
 def crates_below(name, uses):
     """Returns the crates that a crate uses, lowest first, and the crate itself."""
     found = {}

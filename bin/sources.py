@@ -116,7 +116,11 @@ def owner_of(head):
                 head = head[at + 1 :]
                 break
     trait, _, target = head.rpartition(" for ")
-    return last_words(target)[:1] + last_words(trait)
+    # (the prover names a reference to a slice of A as RefSliceA)
+    marks = re.match(r"(?:&|\[|'\w+|\s)*", target)[0]
+    prefix = "Ref" * marks.count("&") + "Slice" * marks.count("[")
+    name, *_ = last_words(target)
+    return (prefix + name, *last_words(trait))
 
 
 def function_of(block, around, module, text, end):

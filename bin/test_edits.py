@@ -117,6 +117,10 @@ class Sources(unittest.TestCase):
         self.assertTrue(function("count").is_named(("rows", "fn", "count", "1")))
         self.assertFalse(function("count").is_named(("rows", "Row", "count")))
 
+    def test_owner(self):
+        self.assertEqual(sources.owner_of("<'a> Source for &'a [Token] "), ("RefSliceToken", "Source"))
+        self.assertEqual(sources.owner_of("<T: Into<u8>> fmt::Display for Row<T> where T: Copy "), ("Row", "Display"))
+
     def test_stated(self):
         stated = sources.stated_text("src/rows.rt", SOURCE, sources.tokens_of({"": SOURCE})[""])
         for text in (b"pub fn len", b"length ( shown self )"):

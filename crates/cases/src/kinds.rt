@@ -21,6 +21,7 @@ fn count_of(kind: &str) -> usize {
         | "screen"
         | "settled screen"
         | "terminal"
+        | "xterm"
         | "session"
         | "render"
         | "surface"
@@ -43,6 +44,7 @@ fn answer_value(kind: &str, row: &Row<'_>, sheet: &mut Sheet) -> Result<(), Faul
         "screen" => screens::screen(row, sheet),
         "settled screen" => screens::settled(row, sheet),
         "terminal" => terminals::terminal(row, sheet),
+        "xterm" => terminals::xterm(row, sheet),
         "torn" => terminals::torn(row, sheet),
         "session" => sessions::session(row, sheet),
         "render" => updates::rendered(row, sheet),

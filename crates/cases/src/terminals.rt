@@ -6,16 +6,21 @@ use crate::sheet::Sheet;
 use crate::updates::{Pair, shows_same};
 use crate::{escapes, surfaces};
 use std::alloc::Global;
-use terminal::{ProgramWidth, Terminal};
+use terminal::{Profile, ProgramWidth, Terminal};
 
 type Plain = Terminal<ProgramWidth>;
 
-/// A terminal of the width and height that two words give, each at most 4,096.
-pub fn terminal_of(alloc: Global, size: &str) -> Result<Plain, Fault> {
+/// A terminal of a profile, and of the width and height that two words give, each at most 4,096.
+pub fn terminal_with(alloc: Global, size: &str, profile: Profile) -> Result<Plain, Fault> {
     let (width, height) = size.split_once(' ').ok_or(Fault::Number)?;
     let width = number_up_to(4096, width)?;
     let height = number_up_to(4096, height)?;
-    Ok(Terminal::new(alloc, width, height, ProgramWidth)?)
+    Ok(Terminal::with_profile(alloc, width, height, ProgramWidth, profile)?)
+}
+
+/// A plain terminal of such a size.
+pub fn terminal_of(alloc: Global, size: &str) -> Result<Plain, Fault> {
+    terminal_with(alloc, size, Profile::Plain)
 }
 
 // A call that changes the terminal; whether the word names one.
@@ -76,14 +81,25 @@ fn take_step(alloc: Global, pair: &mut Pair, step: &str, sheet: &mut Sheet) -> R
     Ok(())
 }
 
-/// `WIDTH HEIGHT | STEPS => ANSWERS`: what a new terminal answers after chunks and calls with ` + ` between them; a
-/// call is in `<>`.
-pub fn terminal(row: &Row<'_>, sheet: &mut Sheet) -> Result<(), Fault> {
-    let mut pair = Pair::new(row.alloc(), row.column(0))?;
+// What a new terminal of a profile answers.
+fn answers_of(profile: Profile, row: &Row<'_>, sheet: &mut Sheet) -> Result<(), Fault> {
+    let mut pair = Pair::new(row.alloc(), row.column(0), profile)?;
     for step in row.column(1).split(" + ") {
         take_step(row.alloc(), &mut pair, step.trim(), sheet)?;
     }
     Ok(())
+}
+
+/// `WIDTH HEIGHT | STEPS => ANSWERS`: what a new terminal answers after chunks and calls with ` + ` between them; a
+/// call is in `<>`.
+pub fn terminal(row: &Row<'_>, sheet: &mut Sheet) -> Result<(), Fault> {
+    answers_of(Profile::Plain, row, sheet)
+}
+
+/// `WIDTH HEIGHT | STEPS => ANSWERS`, as `terminal`, of a terminal of the profile xterm; its viewer is a plain
+/// terminal.
+pub fn xterm(row: &Row<'_>, sheet: &mut Sheet) -> Result<(), Fault> {
+    answers_of(Profile::Xterm, row, sheet)
 }
 
 /// Feeds chunks of one byte.

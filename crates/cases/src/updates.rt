@@ -6,12 +6,12 @@ use crate::fault::Fault;
 use crate::row::{Row, number_up_to};
 use crate::sheet::Sheet;
 use crate::steps;
-use crate::terminals::{feed_each, terminal_of};
+use crate::terminals::{feed_each, terminal_of, terminal_with};
 use escape_stream::encode;
 use std::alloc::Global;
 use std::io;
 use std::io::{Read, Write};
-use terminal::{ProgramWidth, RenderError, Terminal, Watched, render, run};
+use terminal::{Profile, ProgramWidth, RenderError, Terminal, Watched, render, run};
 
 type Plain = Terminal<ProgramWidth>;
 
@@ -47,9 +47,9 @@ pub struct Pair {
 }
 
 impl Pair {
-    /// Two new terminals of the width and height that two words give.
-    pub fn new(alloc: Global, size: &str) -> Result<Pair, Fault> {
-        let terminal = terminal_of(alloc, size)?;
+    /// A new terminal of a profile, and a plain one, of the width and height that two words give.
+    pub fn new(alloc: Global, size: &str, profile: Profile) -> Result<Pair, Fault> {
+        let terminal = terminal_with(alloc, size, profile)?;
         let viewer = terminal_of(alloc, size)?;
         Ok(Pair { terminal, viewer })
     }

@@ -171,6 +171,7 @@ impl<W: Widths + Drop> Surface<W> {
     }
 
     /// Adds a change, which raises the number by one and joins the log; returns the number before it.
+    #[inline(always)]
     pub fn add_change<C: Into<Change> + Drop>(
         &mut self,
         change: C,

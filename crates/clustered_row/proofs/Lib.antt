@@ -1,3 +1,4 @@
+pub mod AloneLemmas
 pub mod AskedLemmas
 pub mod BetweenLemmas
 pub mod BlankLemmas

@@ -27,10 +27,6 @@ found runs position run d at within is =
     let P : Run → Type 0 = λ r. position.offset < length (columns_of r) in
     get_or-flat_map columns_of runs position.index position.offset run d within (subst P is fits) ∙ ap (λ (r : Run). slice_index_or (columns_of r) position.offset d) (sym is) ∙ get_or-replicate run.count position.offset run.attributes d inside
 
-pub position_within : (runs : List Run) (position : Position) → IsPosition runs position → column_at runs position < length (spread runs) → position.index < length runs
-position_within runs position at less =
-    below position.index (length runs) (λ past. let all : length (spread (take position.index runs)) ≡ length (spread runs) = ap (λ ys. length (spread ys)) (take_all position.index runs past) in omega arith)
-
 -- The last run
 
 pub some_runs : (xs : List Run) → 0 < length (spread xs) → 0 < length xs

@@ -12,6 +12,7 @@ use Rattle.clustered_row.specs.Ends.{EndsAt}
 use Rattle.clustered_row.specs.Faces.{Face, row_of}
 use Rattle.clustered_row.proofs.RowLemmas.{length-row_of}
 use Rattle.clustered_row.proofs.BlankLemmas.{blanks_stored, set_before, set_over, take_within}
+use Rattle.clustered_row.proofs.ColumnLemmas.{ends_there}
 
 abbrev pub shown : Row → ℕ → Attributes → Row
 shown columns width rest = columns ++ replicate (width - length columns) (blank rest)
@@ -107,6 +108,12 @@ blanks_show columns first at width rest a whole most ends h =
       within = omega (arith, prefix, h);
       is = (λ i. first ++ replicate (width - prefix i) (blank a)) ∙ sym (append-nil (first ++ g)) ∙ ap (λ n. (first ++ g) ++ replicate n (blank rest)) (sym none) ∙ k.is;
     }
+
+-- the columns from a column on are those blanks already
+pub blanks_already : (columns : Row) (at width : ℕ) (rest : Attributes) → IsWhole columns → length columns ≤ width → length columns ≤ at → at ≤ width → shown columns width rest ≡ set_columns (shown columns width rest) at (replicate (width - at) (blank rest))
+blanks_already columns at width rest whole most past h =
+    let first = columns ++ replicate (at - length columns) (blank rest) in
+    sym (blanks_stored columns at width rest past h) ∙ (blanks_show columns first at width rest rest whole most (record { cut = λ k. ends_there columns first at rest whole k past refl; padded = λ k. refl }) h).is
 
 -- ---- another width
 

@@ -1,4 +1,4 @@
--- Characters that are independent, as cells.
+-- Characters that stand alone, as cells.
 use Rattle.std.proofs.Common.{◌≡◌, ℕ, ◌<◌, ◌≤◌, true, false, List, [], ◌∷◌, IsUtf8, length, length-append, take, refl, sym, ap, ◌∙◌, arith, inl, inr}
 use Rattle.std.specs.Prelude.{◌+◌, ◌/◌, ◌%◌, nat_lt, max, if◌then◌else◌}
 use Rattle.std.specs.Char.{encode_utf8, is_ascii_control}
@@ -6,15 +6,16 @@ use Rattle.std.proofs.lemmas.Bool.{ltb-true}
 use Rattle.std.proofs.lemmas.Bool.Decides.{leb_tells, nat_tests}
 use Rattle.std.proofs.lemmas.List.{take_at}
 use Rattle.std.proofs.lemmas.Str.{encode_ascii, IsUtf8-take}
-use Rattle.text_clusters.specs.Independent.{is_independent, BeginsWith}
-use Rattle.text_clusters.proofs.IndependentLemmas.{single_seam}
+use Rattle.text_clusters.specs.Independent.{is_independent, IsFirst}
 use Rattle.cell_base.specs.Attributes.{Attributes}
 use Rattle.cell_base.specs.CellContent.{cell_of, shows_as_space}
 use Rattle.cell_edits.specs.CellList.{cell_columns}
 use Rattle.cell_edits.proofs.CellLemmas.{by_test}
 use Rattle.cell_edits.proofs.CutLemmas.{columns_narrow, columns_wide}
+use Rattle.clustered_row.specs.SingleText.{stands_alone}
+use Rattle.clustered_row.proofs.AloneLemmas.{first_seam}
 
-low : (c : ℕ) → c < 128 → is_independent c ≡ true → is_ascii_control c ≡ false
+low : (c : ℕ) → c < 128 → stands_alone c ≡ true → is_ascii_control c ≡ false
 unfolding is_independent
 low c l h = grind (arith, nat_tests)
 
@@ -28,7 +29,7 @@ high c t = by_test (nat_lt c 2048)
     (λ u. by_test (nat_lt c 65536) (λ v. rw (t, u, v) refl) (λ v. rw (t, u, v) refl))
 
 -- none shows as a space
-pub single_kept : (c : ℕ) → is_independent c ≡ true → shows_as_space (encode_utf8 c) ≡ false
+pub single_kept : (c : ℕ) → stands_alone c ≡ true → shows_as_space (encode_utf8 c) ≡ false
 single_kept c h = by_test (nat_lt c 128)
     (λ t. let l = ltb-true c 128 t in ap shows_as_space (encode_ascii c l) ∙ low c l h)
     (λ t. high c t)
@@ -49,7 +50,7 @@ single_count text width a k some most =
     ]
 
 -- its bytes
-module _ (text : List ℕ) (c n : ℕ) (b : BeginsWith text c n) where
+module _ (text : List ℕ) (c n : ℕ) (b : IsFirst text c n) where
   pub first_bytes : take n text ≡ encode_utf8 c
   first_bytes = ap (take n) b.whole ∙ take_at (encode_utf8 c) b.rest n (sym b.bytes)
 
@@ -57,7 +58,7 @@ module _ (text : List ℕ) (c n : ℕ) (b : BeginsWith text c n) where
   first_inside = let l = b.bytes in let all = ap length b.whole in let both = length-append (encode_utf8 c) b.rest in omega arith
 
   pub first_utf8 : IsUtf8 text → IsUtf8 (take n text)
-  first_utf8 u = IsUtf8-take text n u (single_seam text text text c n u b)
+  first_utf8 u = IsUtf8-take text n u (first_seam text text text c n u b)
 
-  pub first_kept : shows_as_space (take n text) ≡ false
-  first_kept = ap shows_as_space first_bytes ∙ single_kept c b.stands
+  pub first_kept : stands_alone c ≡ true → shows_as_space (take n text) ≡ false
+  first_kept s = ap shows_as_space first_bytes ∙ single_kept c s

@@ -8,15 +8,15 @@ use Rattle.std.proofs.lemmas.Bool.{and_from, and_parts, eqb-true}
 use Rattle.std.proofs.lemmas.Bool.Decides.{eqb_tells, nat_tests}
 use Rattle.std.proofs.lemmas.Str.{is_utf8-from_IsUtf8}
 use Rattle.std.proofs.lemmas.List.{take-append-drop, drop_all, length-drop, length-take-le}
-use Rattle.text_clusters.specs.Independent.{begins_independent, is_independent}
+use Rattle.text_clusters.specs.Independent.{is_independent}
 use Rattle.text_clusters.specs.Plain.{is_printable}
-use Rattle.text_clusters.proofs.IndependentLemmas.{cut_before}
 use Rattle.text_clusters.proofs.TextLemmas.{first_alone, joined_clusters}
 use Rattle.cell_base.specs.Attributes.{Attributes, plain}
 use Rattle.cell_base.specs.CellContent.{CellContent, cell_of, shows_as_space}
 use Rattle.cell_base.specs.Row.{Row}
 use Rattle.cell_edits.specs.CellList.{cell_columns}
-use Rattle.clustered_row.specs.SingleText.{BeginsSingle}
+use Rattle.clustered_row.specs.SingleText.{begins_alone, stands_alone, BeginsSingle}
+use Rattle.clustered_row.proofs.AloneLemmas.{cut_before}
 use Rattle.cell_edits.specs.RowEdits.{overlaid}
 use Rattle.cell_edits.specs.TextRuns.{Leads}
 use Rattle.cell_edits.proofs.CellLemmas.{by_test}
@@ -84,7 +84,7 @@ some_bytes c = by_test (nat_lt c 128) (λ t. rw t (omega arith))
     (λ t. by_test (nat_lt c 2048) (λ u. rw (t, u) (omega arith)) (λ u. by_test (nat_lt c 65536) (λ v. rw (t, u, v) (omega arith)) (λ v. rw (t, u, v) (omega arith))))
 
 -- of one byte it is printable ASCII
-one_byte : (c : ℕ) → length (encode_utf8 c) ≡ 1 → is_independent c ≡ true → list_all is_printable (encode_utf8 c) ≡ true
+one_byte : (c : ℕ) → length (encode_utf8 c) ≡ 1 → stands_alone c ≡ true → list_all is_printable (encode_utf8 c) ≡ true
 unfolding encode_utf8 is_independent
 one_byte c l h = grind (arith, nat_tests)
 
@@ -100,17 +100,17 @@ module _ (f : List ℕ → ℕ) (text : List ℕ) (n width : ℕ) (single : Begi
       by_plain : (b : Bool) → is_plain size ≡ b → (if b then list_all is_printable (take n text) else is_utf8 (take n text) && not (shows_as_space (take n text))) ≡ true
       by_plain false e =
           and_from (is_utf8 (take n text)) (not (shows_as_space (take n text))) (is_utf8-from_IsUtf8 (take n text) (first_utf8 text single.character n single.first u))
-          (ap not (first_kept text single.character n single.first))
+          (ap not (first_kept text single.character n single.first single.stands))
       by_plain true e =
           let one = eqb-true size.len 1 (and_parts (not size.is_wide) (size.len == 1) e).1 in
           let long : size.len ≡ n = is.len in
           let bytes = single.first.bytes in
-          ap (list_all is_printable) (first_bytes text single.character n single.first) ∙ one_byte single.character (omega (arith, one, long, bytes)) single.first.stands
+          ap (list_all is_printable) (first_bytes text single.character n single.first) ∙ one_byte single.character (omega (arith, one, long, bytes)) single.stands
 
   module _ (a : Attributes) where
     single_is : record { text = take n text; width = width_of size.is_wide; attributes = a } ≡ cell_of (take n text) width a
     single_is =
-        let kept : shows_as_space (take n text) ≡ false = first_kept text single.character n single.first in
+        let kept : shows_as_space (take n text) ≡ false = first_kept text single.character n single.first single.stands in
         let some = single.some in
         let most = single.most in
         let columns : width_of size.is_wide ≡ max 1 width = ap width_of is.wide ∙ by_two (eqb_tells width 2) in
@@ -121,18 +121,18 @@ module _ (f : List ℕ → ℕ) (text : List ℕ) (n width : ℕ) (single : Begi
         by_two (inr p) = let some = single.some in let most = single.most in ap width_of p.0 ∙ omega (arith, p.1, some, most)
 
     -- it is set where it fits
-    single_leads : (row : Row) (at end : ℕ) → at + width ≤ end → end ≤ length row → begins_independent (drop n text) ≡ true
+    single_leads : (row : Row) (at end : ℕ) → at + width ≤ end → end ≤ length row → begins_alone (drop n text) ≡ true
         → Leads f end a row at text (overlaid row at (cell_of (take n text) width a ∷ [])) (at + width) (drop n text)
-    single_leads row at end fits within independent =
+    single_leads row at end fits within alone =
         let cluster = take n text in
         let rest = drop n text in
         let cell = cell_of cluster width a in
         let is = first_bytes text single.character n single.first in
         let columns : width ≡ max 1 (f cluster) = single.columns ∙ ap (λ k. max 1 (f k)) (sym is) in
         let made : cell ≡ cell_of cluster (f cluster) a = ap (λ k. cell_of cluster k a) columns ∙ single_cell cluster (f cluster) a in
-        let kept : shows_as_space cluster ≡ false = first_kept text single.character n single.first in
+        let kept : shows_as_space cluster ≡ false = first_kept text single.character n single.first single.stands in
         let count = single_count cluster width a kept single.some single.most in
-        let cut = cut_before text cluster rest single.character n u single.first refl refl independent in
+        let cut = cut_before text cluster rest single.character n u single.first single.stands refl refl alone in
         subst (λ k. Leads f end a row at text (overlaid row at (cell ∷ [])) (at + k) rest) count
         (leads_first f a row (overlaid row at (cell ∷ [])) at end text cluster rest cell (omega arith) within (omega (arith, count))
         cut (first_alone text cluster _ u cut) made (set_within row at cell (omega (arith, count)))
@@ -153,8 +153,8 @@ walk_none f room text u = record {
 
 -- one character more
 pub walk_more : (f : List ℕ → ℕ) (room : ℕ) (text : List ℕ) (sizes : List CellSize) (count : ℕ) (left : List ℕ) (n width : ℕ) (size : CellSize) → IsWalked f room text sizes count left → BeginsSingle f left n width → IsUtf8 left
-    → size.len ≡ n → size.is_wide ≡ (width == 2) → begins_independent (drop n left) ≡ true → count + width ≤ room → IsWalked f room text (sizes ++ size ∷ []) (count + width) (drop n left)
-walk_more f room text sizes count left n width size w single u len wide independent fits =
+    → size.len ≡ n → size.is_wide ≡ (width == 2) → begins_alone (drop n left) ≡ true → count + width ≤ room → IsWalked f room text (sizes ++ size ∷ []) (count + width) (drop n left)
+walk_more f room text sizes count left n width size w single u len wide alone fits =
     let is : IsSizeOf n width size = record { len = len; wide = wide } in
     let bytes = w.bytes in
     let columns = w.columns in
@@ -180,12 +180,12 @@ walk_more f room text sizes count left n width size w single u len wide independ
           subst (λ (r : Row). Leads f (at + room) a row at text r (at + (count + width)) (drop n left)) (sym all)
           (subst (λ k. Leads f (at + room) a row at text (overlaid middle (at + count) (cell_of (take n left) width a ∷ [])) k (drop n left)) on
           (leads_on f (at + room) a row middle (overlaid middle (at + count) (cell_of (take n left) width a ∷ [])) at (at + count) (at + count + width) text left (drop n left) (w.leads a row at h)
-          (single_leads f left n width single u size is a middle (at + count) (at + room) (omega (arith, fits)) (omega (arith, wide_as, h)) independent)));
+          (single_leads f left n width single u size is a middle (at + count) (at + room) (omega (arith, fits)) (omega (arith, wide_as, h)) alone)));
     }
   where
     width_kept : (cell_of (take n left) width plain).width ≡ width
     width_kept =
-        let kept : shows_as_space (take n left) ≡ false = first_kept left single.character n single.first in
+        let kept : shows_as_space (take n left) ≡ false = first_kept left single.character n single.first single.stands in
         let some = single.some in
         ap (λ b. if b then 1 else max 1 width) kept ∙ omega (arith, some)
 

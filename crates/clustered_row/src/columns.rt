@@ -1,6 +1,6 @@
 //! The columns of a row up to the last one that was written.
 ghost use Rattle.std.specs.Prelude.{◌≡◌, ◌+◌, ◌-◌, ◌<◌, ◌≤◌, ◌^◌, ◌++◌, [], true, length, take, replicate, IfOk, OnOk};
-ghost use Rattle.std.specs.Prelude.{OnErr, false};
+ghost use Rattle.std.specs.Prelude.{OnErr};
 ghost use Rattle.std.specs.List.{list_all};
 ghost use Rattle.text_clusters.specs.Plain.{is_printable};
 ghost use Rattle.cell_base.specs.Row.{blank, closed_end, set_columns};
@@ -60,6 +60,17 @@ impl Columns {
     pub(crate) fn clear(&mut self)
         ensures { self.new ≡ [] }
     {
+        if self.runs.len() == 0 {
+            return;
+        }
+        self.clear_some();
+    }
+
+    // As `clear`, where there are columns.
+    #[inline(never)]
+    fn clear_some(&mut self)
+        ensures { self.new ≡ [] }
+    {
         self.texts.clear();
         self.runs.clear();
     }
@@ -106,7 +117,7 @@ impl Columns {
     }
 
     // Appends a column for each byte of a text in printable ASCII.
-    #[inline(never)]
+    #[inline(always)]
     pub(crate) fn push_plain(
         &mut self,
         text: &str,
@@ -154,33 +165,6 @@ impl Columns {
         self.texts.plain_from()
     }
 
-    // Sets the columns from `at` on to the bytes of a text in printable ASCII. Returns whether this was done: it is
-    // where all cells from `at` on are stored as plain cells.
-    #[inline(always)]
-    fn overwrite(
-        &mut self,
-        at: usize,
-        text: &str,
-        attrs: &CellAttributes,
-    ) -> Result<bool, AllocError>
-        requires printable { list_all is_printable text.now ≡ true }
-        requires within { at + length text.now ≤ length self.old }
-        requires small { at + length text.now < 2 ^ 64 }
-        ensures done { IfOk result
-            (λ is_done. is_done ≡ true
-            → self.new
-            ≡ set_columns self.old at (row_of (plain_faces text.now) (replicate (length text.now) attrs.now))) }
-        ensures not_done { IfOk result (λ is_done. is_done ≡ false → self.new ≡ self.old) }
-        ensures refused { OnErr result (self.new ≡ self.old) }
-    {
-        if at < self.texts.plain_from() {
-            return Ok(false);
-        }
-        self.runs.set(at, at + text.len(), attrs)?;
-        self.texts.set_plain(at, text);
-        Ok(true)
-    }
-
     // Sets cells from column `at` on, given by their text, their sizes and how many columns they take.
     pub(crate) fn set(
         &mut self,
@@ -207,7 +191,30 @@ impl Columns {
         Ok(())
     }
 
-    // Sets the columns from `at` on to the bytes of a text in printable ASCII. It may overwrite `sizes`, a buffer.
+    // As `set_plain`, whatever cells are there. It overwrites `sizes`, a buffer.
+    #[inline(never)]
+    fn set_over_cells(
+        &mut self,
+        at: usize,
+        text: &str,
+        attrs: &CellAttributes,
+        sizes: &mut Vec<CellSize>,
+    ) -> Result<(), AllocError>
+        requires printable { list_all is_printable text.now ≡ true }
+        requires within { at + length text.now ≤ length self.old }
+        requires small { at + length text.now < 2 ^ 64 }
+        ensures done { OnOk result
+            (self.new
+            ≡ set_columns self.old at (row_of (plain_faces text.now) (replicate (length text.now) attrs.now))) }
+        ensures refused { OnErr result (self.new ≡ self.old) }
+    {
+        fill_plain(sizes, text.len())?;
+        self.set(at, text, sizes, text.len(), attrs)?;
+        Ok(())
+    }
+
+    // Sets the columns from `at` on to the bytes of a text in printable ASCII: where all cells from `at` on are plain,
+    // these replace their bytes. It may overwrite `sizes`, a buffer.
     pub(crate) fn set_plain(
         &mut self,
         at: usize,
@@ -223,11 +230,11 @@ impl Columns {
             ≡ set_columns self.old at (row_of (plain_faces text.now) (replicate (length text.now) attrs.now))) }
         ensures refused { OnErr result (self.new ≡ self.old) }
     {
-        if self.overwrite(at, text, attrs)? {
-            return Ok(());
+        if at < self.texts.plain_from() {
+            return self.set_over_cells(at, text, attrs, sizes);
         }
-        fill_plain(sizes, text.len())?;
-        self.set(at, text, sizes, text.len(), attrs)?;
+        self.runs.set(at, at + text.len(), attrs)?;
+        self.texts.set_plain(at, text);
         Ok(())
     }
 

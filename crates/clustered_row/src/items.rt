@@ -8,7 +8,7 @@ ghost use Rattle.std.specs.Vec.{vec_len, vec_capacity};
 use std::alloc::AllocError;
 use std::mem;
 
-// Copies `with` over the items from `at` on.
+// Copies `with` over the items from `at` on. A single one is stored, in place of a block copy.
 #[inline(always)]
 pub(crate) fn put<T: Copy>(items: &mut Vec<T>, at: usize, with: &[T])
     requires { at + length with.now ≤ vec_len items.old }
@@ -16,6 +16,10 @@ pub(crate) fn put<T: Copy>(items: &mut Vec<T>, at: usize, with: &[T])
     ensures len { vec_len items.new ≡ vec_len items.old }
     ensures capacity { vec_capacity items.new ≡ vec_capacity items.old }
 {
+    if let [item] = with {
+        items[at] = *item;
+        return;
+    }
     items[at..at + with.len()].copy_from_slice(with);
 }
 
@@ -40,7 +44,8 @@ pub(crate) fn push_bytes(items: &mut Vec<u8>, bytes: &[u8]) -> Result<(), AllocE
     ensures succeeds { vec_len items.old + length bytes.now ≤ vec_capacity items.old → IsOk result }
 {
     if let [byte] = bytes {
-        items.push(*byte)?;
+        items.reserve(1)?;
+        items.push_reserved(*byte);
         return Ok(());
     }
     items.extend_from_slice(bytes)?;

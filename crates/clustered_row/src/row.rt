@@ -78,6 +78,20 @@ impl ClusteredRow {
         ensures done { OnOk result
             (self.new ≡ set_columns self.old at (replicate (length self.old - at) (blank attrs.now))) }
     {
+        if self.columns.len() <= at && self.rest == *attrs {
+            return Ok(());
+        }
+        self.set_other_blanks_from(at, attrs)
+    }
+
+    // As `set_blanks_from`, where the columns from `at` on may show anything.
+    #[inline(never)]
+    fn set_other_blanks_from(&mut self, at: usize, attrs: &CellAttributes) -> Result<(), AllocError>
+        requires { at ≤ length self.old }
+        ensures len { length self.new ≡ length self.old }
+        ensures done { OnOk result
+            (self.new ≡ set_columns self.old at (replicate (length self.old - at) (blank attrs.now))) }
+    {
         let rest = attrs.try_clone()?;
         self.columns.end_at(at, &self.rest)?;
         self.rest = rest;
@@ -109,7 +123,7 @@ impl ClusteredRow {
 
     // As `set_plain`, from any column on, not only from the one after the last written column.
     #[inline(never)]
-    fn set_plain_elsewhere(
+    pub(crate) fn set_plain_elsewhere(
         &mut self,
         at: usize,
         text: &str,
@@ -123,7 +137,7 @@ impl ClusteredRow {
             ≡ set_columns self.old at (row_of (plain_faces text.now) (replicate (length text.now) attrs.now))) }
     {
         let len = self.columns.len();
-        if at + text.len() < len {
+        if at + text.len() <= len {
             self.columns.set_plain(at, text, attrs, &mut self.sizes)?;
             return Ok(());
         }

@@ -54,7 +54,7 @@ impl ClusteredRow {
     {
         let columns = cell.width();
         if self.width - at < columns {
-            self.set_plain(at, " ", cell.attrs())?;
+            self.set_plain_elsewhere(at, " ", cell.attrs())?;
             return Ok(at + 1);
         }
         self.set_cell(at, cell.str(), columns, cell.attrs())?;

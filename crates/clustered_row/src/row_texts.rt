@@ -75,13 +75,13 @@ impl ClusteredRow {
             (self.new ≡ set_columns self.old at (cell_columns (cell_of text.now width attrs.now))) }
     {
         if shows_as_space(text) {
-            self.set_plain(at, " ", attrs)?;
+            self.set_plain_elsewhere(at, " ", attrs)?;
             return Ok(());
         }
         let count = columns_for(text, width);
         let size = size_of(text.len(), count);
         if size.is_plain() {
-            self.set_plain(at, text, attrs)?;
+            self.set_plain_elsewhere(at, text, attrs)?;
             return Ok(());
         }
         self.set(at, text, &[size], count, attrs)?;
@@ -124,10 +124,10 @@ impl ClusteredRow {
     {
         let mut at = start;
         while end - at > 64 {
-            self.set_plain(at, spaces(64), attrs)?;
+            self.set_plain_elsewhere(at, spaces(64), attrs)?;
             at += 64;
         }
-        self.set_plain(at, spaces(end - at), attrs)?;
+        self.set_plain_elsewhere(at, spaces(end - at), attrs)?;
         Ok(())
     }
 

@@ -72,6 +72,7 @@ fn position_of(runs: &[Run], columns: usize, column: usize) -> Position
     requires within { column < columns }
     ensures position { IsPosition runs.now result }
     ensures column { column_at runs.now result ≡ column }
+    ensures within { result.index < length runs.now }
 {
     let last = runs.len() - 1;
     let start = columns - runs[last].count as usize;
@@ -149,7 +150,7 @@ fn grow_last(runs: &mut Vec<Run>, by: u32)
 }
 
 // Adds columns: `room` to the last run, as many as it can count more, and a run of `count` more, at least one.
-#[inline(never)]
+#[inline(always)]
 fn push_run(
     runs: &mut Vec<Run>,
     room: u32,
@@ -209,19 +210,16 @@ pub(crate) fn cut(runs: &mut Vec<Run>, columns: usize, at: usize)
     }
 }
 
-// Whether one run holds the columns between two positions and has these attributes.
-fn is_set(runs: &[Run], from: Position, to: Position, attributes: &CellAttributes) -> bool
+// Whether one run holds `count` columns from a position on, and has these attributes.
+fn is_set(runs: &[Run], from: Position, count: usize, attributes: &CellAttributes) -> bool
     requires from { IsPosition runs.now from }
-    requires to { IsPosition runs.now to }
-    requires order { from.index ≤ to.index }
-    requires columns { column_at runs.now from < column_at runs.now to }
+    requires within { from.index < length runs.now }
+    requires some { 0 < count }
     ensures { IsTrue result → spread runs.now
-        ≡ attributes_set (column_at runs.now from) (column_at runs.now to) attributes.now (spread runs.now) }
+        ≡ attributes_set (column_at runs.now from) (column_at runs.now from + count) attributes.now (spread runs.now) }
 {
-    if to.offset > 0 {
-        return to.index == from.index && has(&runs[to.index], attributes);
-    }
-    to.index - from.index == 1 && has(&runs[from.index], attributes)
+    let run = &runs[from.index];
+    count <= run.count as usize - from.offset && has(run, attributes)
 }
 
 // Ends the columns before `from` with a run of their own, where `from` is within a run. Returns the number of their
@@ -425,6 +423,37 @@ fn put_between(runs: &mut Vec<Run>, kept: usize, position: Position, run: Run)
     replace(runs, from, to, run);
 }
 
+// Gives `count` columns from a position on these attributes, where one run could count all columns.
+#[inline(never)]
+fn set_from(
+    runs: &mut Vec<Run>,
+    from: Position,
+    count: usize,
+    attributes: &CellAttributes,
+) -> Result<(), AllocError>
+    requires position { IsPosition runs.old.items from }
+    requires fits { length (spread runs.old.items) ≤ 4294967295 }
+    requires some { 0 < count }
+    requires within { column_at runs.old.items from + count ≤ length (spread runs.old.items) }
+    requires maximal { AreMaximal runs.old.items }
+    ensures done { OnOk result
+        (spread runs.new.items
+        ≡ attributes_set (column_at runs.old.items from) (column_at runs.old.items from + count) attributes.now
+        (spread runs.old.items)) }
+    ensures refused { OnErr result (runs.new.items ≡ runs.old.items) }
+    ensures maximal { AreMaximal runs.new.items }
+{
+    let to = position_from(runs, from.index, from.offset + count);
+    runs.reserve(2)?;
+    let run = Run {
+        count: count as u32,
+        attributes: attributes.try_clone()?,
+    };
+    let (kept, position) = end_at(runs, from, to)?;
+    put_between(runs, kept, position, run);
+    Ok(())
+}
+
 /// Gives the columns from `a` on, before `b`, these attributes, where one run could count all columns.
 pub(crate) fn set(
     runs: &mut Vec<Run>,
@@ -444,18 +473,10 @@ pub(crate) fn set(
     ensures maximal { AreMaximal runs.new.items }
 {
     let from = position_of(runs, columns, a);
-    let to = position_from(runs, from.index, from.offset + (b - a));
-    if is_set(runs, from, to, attributes) {
+    if is_set(runs, from, b - a, attributes) {
         return Ok(());
     }
-    runs.reserve(2)?;
-    let run = Run {
-        count: (b - a) as u32,
-        attributes: attributes.try_clone()?,
-    };
-    let (kept, position) = end_at(runs, from, to)?;
-    put_between(runs, kept, position, run);
-    Ok(())
+    set_from(runs, from, b - a, attributes)
 }
 
 /// A copy of the runs.

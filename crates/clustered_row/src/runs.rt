@@ -125,6 +125,7 @@ impl Runs {
     }
 
     /// Gives the columns from `a` on, before `b`, these attributes.
+    #[inline(always)]
     pub fn set(&mut self, a: usize, b: usize, attributes: &CellAttributes) -> Result<(), AllocError>
         requires order { a ≤ b }
         requires within { b ≤ length self.old }

@@ -27,7 +27,7 @@ as_group ts v n e = ap (λ found. option_map (λ f. (sgr f.0, f.1)) found) e
 pub rendition_fits : (ts : List CsiParam) (v : Sgr) (n : ℕ) → sgr_group ts ≡ Some (v, n) → (0 < n) × (n ≤ length ts)
 rendition_fits ts v n e = group_of_takes sgr_groups 0 ts (sgr v) n (as_group ts v n e)
 
-reading_by : (truncated : Bool) (final : ℕ) (ts : List CsiParam) (b : Bool) → 0 < length ts → all_sgr_tokens ts ≡ b
+pub reading_by : (truncated : Bool) (final : ℕ) (ts : List CsiParam) (b : Bool) → 0 < length ts → all_sgr_tokens ts ≡ b
     → sgr_reading truncated final ts ≡ cond b (groups sgr_groups truncated final ts) (unspecified ts truncated final ∷ [])
 reading_by truncated final [] b h e = absurd (omega arith)
 reading_by truncated final (t ∷ ts) b h e = ap (λ v. cond v (groups sgr_groups truncated final (t ∷ ts)) (unspecified (t ∷ ts) truncated final ∷ [])) e
@@ -165,6 +165,11 @@ unfolding actions_after csi_reading
 single_first zero ts truncated final m q e =
     rw (other_final final m) (standard_is truncated final ts q ∙ ap (λ b. cond b (modes_or standard_mode_groups truncated final ts ts) (single_or truncated final ts)) e)
 single_first (suc read) ts truncated final m q e = let some = some_read (suc read) (omega arith) in cc
+
+-- a whole list that is neither settings nor modes
+pub single_whole : (ts : List CsiParam) (truncated : Bool) (final : ℕ) → ¬ (final ≡ 109) → (final == 104 || final == 108) ≡ false → begins_with_question ts ≡ false → csi_reading ts truncated final ≡ single_or truncated final ts
+unfolding actions_after
+single_whole ts truncated final m e q = single_first 0 ts truncated final m q e
 
 -- ---- The end of a list
 

@@ -4,7 +4,7 @@ mod SgrLemmas
 mod PieceLemmas
 mod SgrTokens
 mod TextSteps
-mod CoordinateLemmas
+pub mod CoordinateLemmas
 mod ReadingLemmas
 mod JoinLemmas
 mod BackLemmas
@@ -22,4 +22,9 @@ mod PrefixLemmas
 pub mod PrefixTrip
 mod SizeLemmas
 mod LongestLemmas
-mod ColourLemmas
+mod DigitLemmas
+mod GroupLemmas
+pub mod KeptLemmas
+mod SignLemmas
+mod CountLemmas
+pub mod SettingLemmas

@@ -14,6 +14,7 @@ pub mod Laws
 pub mod Texts
 pub mod Prefixes
 pub mod Tokens
+pub mod Sources
 pub mod Writable
 pub mod Sizes
 pub mod Longest

@@ -15,9 +15,9 @@ ghost use Rattle.csi_codec.specs.Cursors.{
 ghost use Rattle.csi_codec.specs.Parameters.{one_slot, sequence_text, slot_number, spelled_text};
 
 use crate::one_based::OneBased;
-use crate::parameters::{
-    CsiParam, coordinate_pair, count, number_and_space, one_coordinate, one_number,
-};
+use crate::parameters::CsiParam;
+use crate::slots::{coordinate_pair, count, number_and_space, one_coordinate, one_number};
+use crate::sources::TokenSource;
 use crate::spelling::{
     ControlSequence, put_count, put_final, put_number, put_pair, write_parameters,
 };
@@ -254,8 +254,8 @@ fn put_style(style: CursorStyle, text: &mut SequenceText)
 /// The cursor sequence that a whole list before a final byte encodes, if there is one.
 #[tactic(auto, unfolding(crate::specs::Cursors::cursor_reading))]
 #[inline(always)]
-pub(crate) fn cursor_reading(params: &[CsiParam], control: char) -> Option<Cursor>
-    ensures { result ≡ cursor_reading control params.now }
+pub fn cursor_reading<S: TokenSource>(params: S, control: char) -> Option<Cursor>
+    ensures { result ≡ cursor_reading control (S.tokens params) }
 {
     match control {
         'A' => Some(Cursor::Up(count(params)?)),
@@ -290,34 +290,37 @@ pub(crate) fn cursor_reading(params: &[CsiParam], control: char) -> Option<Curso
             bottom,
         )| Cursor::SetTopAndBottomMargins { top, bottom }),
         's' => save_or_margins(params),
-        'u' if params.is_empty() => Some(Cursor::RestoreCursor),
+        'u' if params.split().is_none() => Some(Cursor::RestoreCursor),
         'n' => position_request(params),
         'q' => Some(Cursor::CursorStyle(CursorStyle::from_i64(number_and_space(params)?)?)),
         _ => None,
     }
 }
 
-fn tabulation_control(params: &[CsiParam]) -> Option<CursorTabulationControl>
-    ensures { result ≡ option_and_then (λ slot. tabulation_control_named (slot_number slot)) (one_slot params.now) }
+fn tabulation_control<S: TokenSource>(params: S) -> Option<CursorTabulationControl>
+    ensures { result
+        ≡ option_and_then (λ slot. tabulation_control_named (slot_number slot)) (one_slot (S.tokens params)) }
 {
     CursorTabulationControl::from_i64(one_number(params)?)
 }
 
-fn save_or_margins(params: &[CsiParam]) -> Option<Cursor>
-    ensures { result ≡ save_or_margins params.now }
+fn save_or_margins<S: TokenSource>(params: S) -> Option<Cursor>
+    ensures { result ≡ save_or_margins (S.tokens params) }
 {
-    if params.is_empty() {
+    if params.split().is_none() {
         return Some(Cursor::SaveCursor);
     }
     let (left, right) = coordinate_pair(u32::MAX, params)?;
     Some(Cursor::SetLeftAndRightMargins { left, right })
 }
 
-fn position_request(params: &[CsiParam]) -> Option<Cursor>
-    ensures { result ≡ position_request params.now }
+fn position_request<S: TokenSource>(params: S) -> Option<Cursor>
+    ensures { result ≡ position_request (S.tokens params) }
 {
-    match params {
-        [CsiParam::Integer(6)] => Some(Cursor::RequestActivePositionReport),
+    match params.split()? {
+        (CsiParam::Integer(6), rest) if rest.split().is_none() => {
+            Some(Cursor::RequestActivePositionReport)
+        }
         _ => None,
     }
 }

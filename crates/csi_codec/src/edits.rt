@@ -10,7 +10,8 @@ ghost use Rattle.csi_codec.specs.Edits.{
 };
 ghost use Rattle.csi_codec.specs.Parameters.{spelled_text};
 
-use crate::parameters::{CsiParam, count, one_number};
+use crate::slots::{count, one_number};
+use crate::sources::TokenSource;
 use crate::spelling::{ControlSequence, put_count, put_extent, write_parameters};
 use crate::text::SequenceText;
 use std::fmt;
@@ -139,8 +140,8 @@ impl ControlSequence for Edit {
 /// The edit that a whole list before a final byte encodes, if there is one.
 #[tactic(auto, unfolding(crate::specs::Edits::edit_reading))]
 #[inline(always)]
-pub(crate) fn edit_reading(params: &[CsiParam], control: char) -> Option<Edit>
-    ensures { result ≡ edit_reading control params.now }
+pub fn edit_reading<S: TokenSource>(params: S, control: char) -> Option<Edit>
+    ensures { result ≡ edit_reading control (S.tokens params) }
 {
     match control {
         '@' => Some(Edit::InsertCharacter(count(params)?)),

@@ -12,7 +12,7 @@ use crate::groups::{Kind, all_sgr_tokens, mode_group};
 use crate::parameters::{CsiParam, after};
 use crate::rendition::Sgr;
 use crate::sequences::{CSI, request, unspecified};
-use crate::sgr_reading::sgr_group;
+use crate::sgr_reading::read_group;
 use std::alloc::{AllocError, Global};
 
 /// A cursor in a list of parameters before a final byte: how far its actions were read. It borrows nothing, so it can
@@ -160,10 +160,9 @@ fn setting_at(read: usize, params: &[CsiParam]) -> Option<(Sgr, usize)>
     if params.is_empty() {
         return Some((Sgr::Reset, 1));
     }
-    let (value, len) = sgr_group(after(params, read))?;
-    let end = read + len;
-    if read > 0 || all_sgr_tokens(after(params, end)) {
-        Some((value, end))
+    let (value, rest) = read_group(after(params, read))?;
+    if read > 0 || all_sgr_tokens(rest) {
+        Some((value, params.len() - rest.len()))
     } else {
         None
     }

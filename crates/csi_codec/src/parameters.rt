@@ -1,8 +1,7 @@
-//! Tokens of a CSI list, the numbers and positions that a list can have, and how tokens are written.
-ghost use Rattle.std.specs.Prelude.{◌≡◌, ◌≤◌, ◌++◌, Some, IfOk, OnErr, OnOk, option_map, drop, length, take};
+//! Tokens of a CSI list, and how they are written.
+ghost use Rattle.std.specs.Prelude.{◌≡◌, ◌≤◌, ◌++◌, Some, IfOk, OnErr, OnOk, drop, length, take};
 ghost use Rattle.std.specs.Fmt.{signed_decimal};
 ghost use Rattle.csi_codec.specs.Parameters.{number_within, position, semicolon_at};
-ghost use Rattle.csi_codec.specs.Parameters.{one_slot, two_slots, slot_and_space, slot_number, count, coordinate_pair};
 ghost use Rattle.csi_codec.specs.Parameters.{token_text, sequence_text, spelled, spelled_text};
 ghost use Rattle.csi_codec.specs.Sequences.{IsSameRest};
 
@@ -149,71 +148,6 @@ pub(crate) fn position(default: u32, value: i64) -> Option<OneBased>
         0 => Some(OneBased::new(default)),
         number => Some(OneBased::new(number)),
     }
-}
-
-/// The number of a list that is empty or one number, where an absent one is 0.
-pub(crate) fn one_number(params: &[CsiParam]) -> Option<i64>
-    ensures { result ≡ option_map slot_number (one_slot params.now) }
-{
-    match params {
-        [] => Some(0),
-        [CsiParam::Integer(value)] => Some(*value),
-        _ => None,
-    }
-}
-
-/// The number of a list that is at most one number, and a space after it, where an absent one is 0.
-pub(crate) fn number_and_space(params: &[CsiParam]) -> Option<i64>
-    ensures { result ≡ option_map slot_number (slot_and_space params.now) }
-{
-    match params {
-        [CsiParam::P(b' ')] => Some(0),
-        [CsiParam::Integer(value), CsiParam::P(b' ')] => Some(*value),
-        _ => None,
-    }
-}
-
-/// The position of a list that is empty or one number, where an absent one and 0 are 1.
-pub(crate) fn one_coordinate(params: &[CsiParam]) -> Option<OneBased>
-    ensures { result ≡ count params.now }
-{
-    position(1, one_number(params)?)
-}
-
-/// The count of a list that is empty or one number, where an absent one and 0 are 1.
-pub(crate) fn count(params: &[CsiParam]) -> Option<u32>
-    ensures { result ≡ count params.now }
-{
-    Some(one_coordinate(params)?.as_one_based())
-}
-
-/// The two numbers of a list with at most one on each side of a `;`, where an absent one is 0.
-#[inline(always)]
-fn two_numbers(params: &[CsiParam]) -> Option<(i64, i64)>
-    ensures { result ≡ option_map (λ slots. (slot_number slots.0, slot_number slots.1)) (two_slots params.now) }
-{
-    match params {
-        [
-            CsiParam::Integer(a),
-            CsiParam::P(b';'),
-            CsiParam::Integer(b),
-        ] => Some((*a, *b)),
-        [] | [CsiParam::P(b';')] => Some((0, 0)),
-        [CsiParam::Integer(a)] | [CsiParam::Integer(a), CsiParam::P(b';')] => Some((*a, 0)),
-        [CsiParam::P(b';'), CsiParam::Integer(b)] => Some((0, *b)),
-        _ => None,
-    }
-}
-
-/// The two positions of a list with at most one number on each side of a `;`. An absent one and 0 are 1 for the first
-/// position and `default` for the second.
-#[inline(always)]
-pub(crate) fn coordinate_pair(default: u32, params: &[CsiParam]) -> Option<(OneBased, OneBased)>
-    requires { 1 ≤ default }
-    ensures { result ≡ coordinate_pair default params.now }
-{
-    let (a, b) = two_numbers(params)?;
-    Some((position(1, a)?, position(default, b)?))
 }
 
 /// 1 where the token at `position` is `;`, else 0.

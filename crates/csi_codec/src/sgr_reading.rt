@@ -1,53 +1,95 @@
 //! SGR: reading a group, by the number that it begins with.
-ghost use Rattle.std.specs.Prelude.{◌≡◌, ◌≤◌, IfSome, pos, ◌∷◌, []};
+ghost use Rattle.std.specs.Prelude.{◌≡◌, ◌∷◌, [], false, IfNone, IfSome, Some, None, pos, option_map, option_and_then};
 ghost use Rattle.csi_codec.specs.Parameters.{number_within};
-ghost use Rattle.csi_codec.specs.declared.parameters.CsiParam.TheVariants.{Integer, P};
 ghost use Rattle.csi_codec.specs.Rendition.{
+  colour,
   colour_form,
-  palette_at,
-  opaque_at,
-  colour_at,
-  taking,
-  single_code,
   plain_code,
+  single_code,
   underline_numbered,
   underline_shape,
   numbered_shape,
   sgr_shape,
   sgr_group,
 };
+ghost use Rattle.csi_codec.specs.Sources.{read_off, past_semicolon, seen};
+ghost use Rattle.csi_codec.specs.declared.parameters.CsiParam.TheVariants.{Integer, P};
 
-use crate::parameters::CsiParam::{self, Integer, P};
-use crate::parameters::{number_within, semicolon_at};
+use crate::parameters::number_within;
 use crate::rendition::{Font, Sgr};
+use crate::sources::TokenSource;
 use cell_base::{Blink, ColorSpec, Intensity, SrgbaTuple, Underline, VerticalAlign};
 
 /// The number as a byte, if it is 0 to 255.
+#[inline(always)]
 fn channel(value: i64) -> Option<u8>
     ensures { result ≡ number_within 255 value }
 {
     Some(number_within(255, value)? as u8)
 }
 
-/// The palette colour with this index, if it is a byte, and how many tokens give it.
-fn palette(len: usize, index: i64) -> Option<(ColorSpec, usize)>
-    ensures { result ≡ taking len (palette_at 0 (Integer index ∷ [])) }
-{
-    Some((ColorSpec::PaletteIndex(channel(index)?), len))
-}
-
-/// The opaque colour of three numbers, if they are bytes, and how many tokens give it.
-fn opaque(len: usize, red: i64, green: i64, blue: i64) -> Option<(ColorSpec, usize)>
-    ensures { result ≡ taking len (opaque_at 0 1 2 (Integer red ∷ Integer green ∷ Integer blue ∷ [])) }
+/// The opaque colour of three numbers, if they are bytes.
+#[inline(always)]
+fn opaque(red: i64, green: i64, blue: i64) -> Option<ColorSpec>
+    ensures { result ≡ option_and_then (λ r. option_and_then (λ g. option_map (λ b. colour r g b 255)
+        (number_within 255 blue)) (number_within 255 green)) (number_within 255 red) }
 {
     let color = SrgbaTuple(channel(red)?, channel(green)?, channel(blue)?, 255);
-    Some((ColorSpec::TrueColor(color), len))
+    Some(ColorSpec::TrueColor(color))
 }
 
-/// The colour of four numbers, if they are bytes, and how many tokens give it.
-fn with_alpha(len: usize, red: i64, green: i64, blue: i64, alpha: i64) -> Option<(ColorSpec, usize)>
+/// The colour of a form with `;`, where `kind` follows the first `;` and `rest` follows the kind.
+#[inline(always)]
+#[tactic(auto, unfolding(crate::specs::Rendition::colour_form))]
+fn semicolon_form<S: TokenSource>(kind: i64, rest: S) -> Option<(ColorSpec, S)>
+    ensures { seen S.tokens result ≡ read_off (P 59 ∷ Integer kind ∷ S.tokens rest)
+        (colour_form (P 59 ∷ Integer kind ∷ S.tokens rest)) }
+{
+    match kind {
+        5 => {
+            let (index, rest) = rest.number_after(b';')?;
+            Some((ColorSpec::PaletteIndex(channel(index)?), rest))
+        }
+        2 => {
+            let (red, rest) = rest.number_after(b';')?;
+            let (green, rest) = rest.number_after(b';')?;
+            let (blue, rest) = rest.number_after(b';')?;
+            Some((opaque(red, green, blue)?, rest))
+        }
+        _ => None,
+    }
+}
+
+/// The colour of a form with `:`, where `kind` follows the first `:` and `rest` follows the kind.
+#[tactic(auto, unfolding(crate::specs::Rendition::colour_form))]
+fn colon_form<S: TokenSource>(kind: i64, rest: S) -> Option<(ColorSpec, S)>
+    ensures { seen S.tokens result ≡ read_off (P 58 ∷ Integer kind ∷ S.tokens rest)
+        (colour_form (P 58 ∷ Integer kind ∷ S.tokens rest)) }
+{
+    match kind {
+        5 => {
+            let (index, rest) = rest.number_after(b':')?;
+            Some((ColorSpec::PaletteIndex(channel(index)?), rest))
+        }
+        2 => colon_opaque(rest),
+        6 => {
+            let rest = rest.past(b':')?;
+            let (red, rest) = rest.number_after(b':')?;
+            let (green, rest) = rest.number_after(b':')?;
+            let (blue, rest) = rest.number_after(b':')?;
+            let (alpha, rest) = rest.number_after(b':')?;
+            Some((with_alpha(red, green, blue, alpha)?, rest))
+        }
+        _ => None,
+    }
+}
+
+/// The colour of four numbers, if they are bytes.
+#[inline(always)]
+fn with_alpha(red: i64, green: i64, blue: i64, alpha: i64) -> Option<ColorSpec>
     ensures { result
-        ≡ taking len (colour_at 0 1 2 3 (Integer red ∷ Integer green ∷ Integer blue ∷ Integer alpha ∷ [])) }
+        ≡ option_and_then (λ r. option_and_then (λ g. option_and_then (λ b. option_map (λ a. colour r g b a)
+        (number_within 255 alpha)) (number_within 255 blue)) (number_within 255 green)) (number_within 255 red) }
 {
     let color = SrgbaTuple(
         channel(red)?,
@@ -55,120 +97,41 @@ fn with_alpha(len: usize, red: i64, green: i64, blue: i64, alpha: i64) -> Option
         channel(blue)?,
         channel(alpha)?,
     );
-    Some((ColorSpec::TrueColor(color), len))
+    Some(ColorSpec::TrueColor(color))
 }
 
-/// The colour of a form with `;`, where `kind` follows the first `;` and `params` follow the kind, and how many tokens
-/// the form takes from its first `;` on.
+/// The opaque colour of the form with `:` and kind 2, where `rest` follows the kind.
 #[tactic(auto, unfolding(crate::specs::Rendition::colour_form))]
-fn semicolon_form(kind: i64, params: &[CsiParam]) -> Option<(ColorSpec, usize)>
-    ensures { result ≡ colour_form (P 59 ∷ Integer kind ∷ params.now) }
+fn colon_opaque<S: TokenSource>(rest: S) -> Option<(ColorSpec, S)>
+    ensures { seen S.tokens result ≡ read_off (P 58 ∷ Integer (pos 2) ∷ S.tokens rest)
+        (colour_form (P 58 ∷ Integer (pos 2) ∷ S.tokens rest)) }
 {
-    match (kind, params) {
-        (5, [P(b';'), Integer(n), ..]) => palette(4, *n),
-        (
-            2,
-            [
-                P(b';'),
-                Integer(r),
-                P(b';'),
-                Integer(g),
-                P(b';'),
-                Integer(b),
-                ..
-            ],
-        ) => opaque(8, *r, *g, *b),
-        _ => None,
+    let Some((first, rest)) = rest.number_after(b':') else {
+        let rest = rest.past(b':')?;
+        let (red, rest) = rest.number_after(b':')?;
+        let (green, rest) = rest.number_after(b':')?;
+        let (blue, rest) = rest.number_after(b':')?;
+        return Some((opaque(red, green, blue)?, rest));
+    };
+    let (second, rest) = rest.number_after(b':')?;
+    let (third, rest) = rest.number_after(b':')?;
+    match rest.number_after(b':') {
+        Some((fourth, rest)) => Some((opaque(second, third, fourth)?, rest)),
+        None => Some((opaque(first, second, third)?, rest)),
     }
 }
 
-/// The colour of a form with `:`, where `kind` follows the first `:` and `params` follow the kind, and how many tokens
-/// the form takes from its first `:` on.
+/// The colour of the longest form at the start of the tokens, and the tokens after it.
+#[inline(always)]
 #[tactic(auto, unfolding(crate::specs::Rendition::colour_form))]
-fn colon_form(kind: i64, params: &[CsiParam]) -> Option<(ColorSpec, usize)>
-    ensures { result ≡ colour_form (P 58 ∷ Integer kind ∷ params.now) }
+fn color_form<S: TokenSource>(source: S) -> Option<(ColorSpec, S)>
+    ensures { seen S.tokens result ≡ read_off (S.tokens source) (colour_form (S.tokens source)) }
 {
-    match (kind, params) {
-        (5, [P(b':'), Integer(n), ..]) => palette(4, *n),
-        (2, _) => colon_opaque(params),
-        (6, [P(b':'), rest @ ..]) => colon_alpha(rest),
-        _ => None,
+    if let Some((kind, rest)) = source.number_after(b';') {
+        return semicolon_form(kind, rest);
     }
-}
-
-/// The opaque colour of the form with `:` and kind 2, where `params` follow the kind, and the form's token count.
-#[tactic(auto, unfolding(crate::specs::Rendition::colour_form))]
-fn colon_opaque(params: &[CsiParam]) -> Option<(ColorSpec, usize)>
-    ensures { result ≡ colour_form (P 58 ∷ Integer (pos 2) ∷ params.now) }
-{
-    match params {
-        [
-            P(b':'),
-            Integer(_),
-            P(b':'),
-            Integer(r),
-            P(b':'),
-            Integer(g),
-            P(b':'),
-            Integer(b),
-            ..
-        ] => opaque(10, *r, *g, *b),
-        [
-            P(b':'),
-            P(b':'),
-            Integer(r),
-            P(b':'),
-            Integer(g),
-            P(b':'),
-            Integer(b),
-            ..
-        ] => opaque(9, *r, *g, *b),
-        [
-            P(b':'),
-            Integer(r),
-            P(b':'),
-            Integer(g),
-            P(b':'),
-            Integer(b),
-            ..
-        ] => opaque(8, *r, *g, *b),
-        _ => None,
-    }
-}
-
-/// The colour with an alpha of the form with `:` and kind 6, where `params` follow the kind and a `:`, and the form's
-/// token count.
-#[tactic(auto, unfolding(crate::specs::Rendition::colour_form))]
-fn colon_alpha(params: &[CsiParam]) -> Option<(ColorSpec, usize)>
-    ensures { result ≡ colour_form (P 58 ∷ Integer (pos 6) ∷ P 58 ∷ params.now) }
-{
-    match params {
-        [
-            P(b':'),
-            Integer(r),
-            P(b':'),
-            Integer(g),
-            P(b':'),
-            Integer(b),
-            P(b':'),
-            Integer(a),
-            ..
-        ] => with_alpha(11, *r, *g, *b, *a),
-        _ => None,
-    }
-}
-
-/// The colour of the longest form at the start of a list, and how many tokens the form takes.
-#[tactic(auto, unfolding(crate::specs::Rendition::colour_form))]
-fn color_form(params: &[CsiParam]) -> Option<(ColorSpec, usize)>
-    ensures form { result ≡ colour_form params.now }
-    ensures short { IfSome result (λ found. found.1 ≤ 11) }
-{
-    match params {
-        [P(b':'), Integer(kind), rest @ ..] => colon_form(*kind, rest),
-        [P(b';'), Integer(kind), rest @ ..] => semicolon_form(*kind, rest),
-        _ => None,
-    }
+    let (kind, rest) = source.number_after(b':')?;
+    colon_form(kind, rest)
 }
 
 /// The underline of this kind.
@@ -186,22 +149,9 @@ fn underline_numbered(kind: i64) -> Option<Underline>
     }
 }
 
-/// `4:k` where `k` is the number of an underline, else `4` alone; `params` are the tokens after the 4.
-fn underline_shape(params: &[CsiParam]) -> Option<(Sgr, usize)>
-    ensures shape { result ≡ underline_shape params.now }
-    ensures short { IfSome result (λ found. found.1 ≤ 3) }
-{
-    if let [P(b':'), Integer(kind), ..] = params
-        && let Some(line) = underline_numbered(*kind)
-    {
-        return Some((Sgr::Underline(line), 3));
-    }
-    Some((Sgr::Underline(Underline::Single), 1))
-}
-
 /// The setting that a single number encodes, if there is one.
 #[inline(always)]
-pub(crate) fn plain_code(value: i64) -> Option<Sgr>
+fn plain_code(value: i64) -> Option<Sgr>
     ensures { result ≡ plain_code value }
 {
     single_code(channel(value)?)
@@ -250,46 +200,65 @@ fn single_code(code: u8) -> Option<Sgr>
     }
 }
 
-/// The setting of the longest shape at the start of a list that begins with a number, and how many tokens it takes.
+/// `4:k` where `k` is the number of an underline, else `4` alone; `rest` follows the 4.
+fn underline_shape<S: TokenSource>(rest: S) -> Option<(Sgr, S)>
+    ensures { seen S.tokens result ≡ read_off (Integer (pos 4) ∷ S.tokens rest) (underline_shape (S.tokens rest)) }
+{
+    if let Some((kind, rest)) = rest.number_after(b':')
+        && let Some(line) = underline_numbered(kind)
+    {
+        return Some((Sgr::Underline(line), rest));
+    }
+    Some((Sgr::Underline(Underline::Single), rest))
+}
+
+/// The setting of the longest shape at the start of tokens that begin with a number, and the tokens after it.
+#[inline(always)]
 #[tactic(auto, unfolding(crate::specs::Rendition::numbered_shape))]
-fn numbered_shape(value: i64, params: &[CsiParam]) -> Option<(Sgr, usize)>
-    ensures shape { result ≡ numbered_shape value params.now }
-    ensures short { IfSome result (λ found. found.1 ≤ 12) }
+fn numbered_shape<S: TokenSource>(value: i64, rest: S) -> Option<(Sgr, S)>
+    ensures { seen S.tokens result ≡ read_off (Integer value ∷ S.tokens rest) (numbered_shape value (S.tokens rest)) }
 {
     match value {
         38 | 48 | 58 => {
-            let (color, len) = color_form(params)?;
+            let (color, rest) = color_form(rest)?;
             let setting = match value {
                 38 => Sgr::Foreground(color),
                 48 => Sgr::Background(color),
                 _ => Sgr::UnderlineColor(color),
             };
-            Some((setting, len + 1))
+            Some((setting, rest))
         }
-        4 => underline_shape(params),
-        _ => Some((plain_code(value)?, 1)),
+        4 => underline_shape(rest),
+        _ => Some((plain_code(value)?, rest)),
     }
 }
 
-/// The setting of the longest shape at the start of a list, and how many tokens it takes.
+/// The setting of the longest shape at the start of the tokens, and the tokens after it.
+#[inline(always)]
 #[tactic(auto, unfolding(crate::specs::Rendition::sgr_shape))]
-fn sgr_shape(params: &[CsiParam]) -> Option<(Sgr, usize)>
-    ensures shape { result ≡ sgr_shape params.now }
-    ensures short { IfSome result (λ found. found.1 ≤ 12) }
+fn sgr_shape<S: TokenSource>(source: S) -> Option<(Sgr, S)>
+    ensures { seen S.tokens result ≡ read_off (S.tokens source) (sgr_shape (S.tokens source)) }
 {
-    let (first, rest) = params.split_first()?;
-    match *first {
-        P(b';') => Some((Sgr::Reset, 1)),
-        P(_) => None,
-        Integer(value) => numbered_shape(value, rest),
+    match source.number() {
+        Some((value, rest)) => numbered_shape(value, rest),
+        None => Some((Sgr::Reset, source.past(b';')?)),
     }
 }
 
-/// The setting of the group at the start of a list, and how many tokens it takes with the `;` right after it.
-#[tactic(auto, unfolding(crate::specs::Rendition::sgr_group))]
-pub(crate) fn sgr_group(params: &[CsiParam]) -> Option<(Sgr, usize)>
-    ensures { result ≡ sgr_group params.now }
+/// The tokens after a `;`, where one comes first, and else all of them.
+#[inline(always)]
+fn past_semicolon<S: TokenSource>(rest: S) -> S
+    ensures { S.tokens result ≡ past_semicolon (S.tokens rest) }
 {
-    let (value, len) = sgr_shape(params)?;
-    Some((value, len + semicolon_at(params, len)))
+    rest.past(b';').unwrap_or(rest)
+}
+
+/// The setting of the group at the start of the tokens, and the tokens after it and the `;` right after it.
+#[inline(always)]
+#[tactic(auto, using(crate::proofs::GroupLemmas::group_read))]
+pub(crate) fn read_group<S: TokenSource>(source: S) -> Option<(Sgr, S)>
+    ensures { seen S.tokens result ≡ read_off (S.tokens source) (sgr_group (S.tokens source)) }
+{
+    let (value, rest) = sgr_shape(source)?;
+    Some((value, past_semicolon(rest)))
 }

@@ -3,7 +3,7 @@ ghost use Rattle.std.specs.Prelude.{◌≡◌, ◌≤◌, IsSome, fold, take};
 ghost use Rattle.std.specs.List.{prefix_len};
 ghost use Rattle.std.specs.Char.{IsAsciiDigit};
 ghost use Rattle.csi_codec.specs.Tokens.{is_parameter as in_parameters, no_parameters, with_token, with_number};
-ghost use Rattle.csi_codec.specs.Tokens.{with_byte};
+ghost use Rattle.csi_codec.specs.Tokens.{parameters_of, with_byte};
 ghost use Rattle.csi_codec.specs.Tokens.{next_number as number_after};
 
 use crate::parameters::CsiParam;
@@ -26,7 +26,7 @@ pub fn is_parameter(byte: u8) -> bool
 
 /// The number after one more digit, where `number` is that of the digits before, if any. It is cut at the largest.
 #[inline(always)]
-fn next_number(number: Option<u64>, byte: u8) -> u64
+pub(crate) fn next_number(number: Option<u64>, byte: u8) -> u64
     requires { IsAsciiDigit byte }
     ensures { result ≡ number_after number byte }
 {
@@ -141,6 +141,16 @@ impl Parameters {
             }
         } else {
             self.add(CsiParam::P(byte), None);
+        }
+    }
+
+    /// Forgets all tokens, and reads parameter bytes.
+    pub fn set(&mut self, bytes: &[u8])
+        ensures { self.new ≡ parameters_of bytes.now }
+    {
+        self.clear();
+        for byte in bytes {
+            self.push(*byte);
         }
     }
 

@@ -16,7 +16,7 @@ use Rattle.escape_framing.proofs.CharacterLemmas.{broken_step}
 abbrev pub Goes : List ℕ → Type 0
 Goes bytes = is_utf8 bytes ≡ false → is_none (utf8_error_len bytes) ≡ false → ⊥
 
-goes_inner : (x b : ℕ) (t : List ℕ) → IsUnfinished (Begun (x ∷ t)) → Goes (x ∷ t ++ b ∷ []) → Inner b
+pub goes_inner : (x b : ℕ) (t : List ℕ) → IsUnfinished (Begun (x ∷ t)) → Goes (x ∷ t ++ b ∷ []) → Inner b
 goes_inner x b t g k = by_outcome (outcome (x ∷ t) b g)
   where
     by_outcome : Outcome (x ∷ t) b → Inner b

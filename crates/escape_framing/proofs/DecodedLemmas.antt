@@ -30,16 +30,16 @@ encoded bytes more d c n s e h =
     subst (λ (v : ℕ). Begins bytes v n) same (more, s, e, ap (λ (p : Decoded). p.size) k)
 
 -- the bytes are the encoding of a character
-abbrev Encodes : List ℕ → Type 0
+abbrev pub Encodes : List ℕ → Type 0
 Encodes bytes = (c : ℕ) × IsScalar c × (encode c ≡ bytes)
 
-two : (x y : ℕ) → 0xC2 ≤ x → x < 0xE0 → second x y ≡ true → Encodes (x ∷ y ∷ [])
+pub two : (x y : ℕ) → 0xC2 ≤ x → x < 0xE0 → second x y ≡ true → Encodes (x ∷ y ∷ [])
 two x y l m s = two_bytes x y l m (grind (arith, nat_tests)) (grind (arith, nat_tests))
 
-three : (x y z : ℕ) → 0xE0 ≤ x → x < 0xF0 → second x y ≡ true → continues z ≡ true → Encodes (x ∷ y ∷ z ∷ [])
+pub three : (x y z : ℕ) → 0xE0 ≤ x → x < 0xF0 → second x y ≡ true → continues z ≡ true → Encodes (x ∷ y ∷ z ∷ [])
 three x y z l m s k = three_bytes x y z l m (λ e. grind (arith, nat_tests)) (λ e. grind (arith, nat_tests)) (grind (arith, nat_tests)) (grind (arith, nat_tests)) (grind (arith, nat_tests)) (grind (arith, nat_tests))
 
-four : (x y z w : ℕ) → 0xF0 ≤ x → x ≤ 0xF4 → second x y ≡ true → continues z ≡ true → continues w ≡ true → Encodes (x ∷ y ∷ z ∷ w ∷ [])
+pub four : (x y z w : ℕ) → 0xF0 ≤ x → x ≤ 0xF4 → second x y ≡ true → continues z ≡ true → continues w ≡ true → Encodes (x ∷ y ∷ z ∷ w ∷ [])
 four x y z w l m s k i = four_bytes x y z w l m (λ e. grind (arith, nat_tests)) (λ e. grind (arith, nat_tests)) (grind (arith, nat_tests)) (grind (arith, nat_tests)) (grind (arith, nat_tests)) (grind (arith, nat_tests)) (grind (arith, nat_tests)) (grind (arith, nat_tests))
 
 -- the encoding of a character at the start

@@ -32,6 +32,7 @@ pub mod StateLemmas
 pub mod EventLemmas
 pub mod BodyLemmas
 pub mod ReadEventLemmas
+pub mod BrokenLemmas
 pub mod RunLemmas
 pub mod PrefixLemmas
 mod CommandLemmas

@@ -8,12 +8,13 @@ use Rattle.escape_framing.specs.Bytes.{is_stop, is_embedded, is_intermediate, is
 use Rattle.escape_framing.specs.Dispatch.{Dispatch}
 use Rattle.escape_framing.specs.Dispatch as stream
 use Rattle.escape_framing.specs.Decode.{in_character, first_byte}
-use Rattle.escape_framing.specs.Held.{Kept, InCharacter, InCommand, InDevice, InString, character_step, opened, escape_step, header_step, Held, Handed, fresh_step, held_step, nothing_held, hand_out}
+use Rattle.escape_framing.specs.Held.{Kept, InCharacter, InCommand, InDevice, InString, Step, character_step, opened, escape_step, header_step, Held, Handed, handed, fresh_step, held_step, nothing_held, hand_out}
 use Rattle.escape_framing.specs.Framed.{Text, Single, framed, at_offset, placed_after, framed_after, begun_bytes, bytes_begun, kept_takes, takes_text, no_text, BeginsNoText, IsReached, IsCarried, Frames, IsTextLen}
 use Rattle.escape_framing.specs.Prefixes.{IsLastAt}
 use Rattle.escape_framing.specs.Lending.{Lending}
 use Rattle.escape_framing.specs.Event.{handed_out, held_resumed, rank, IsAlone, IsHeldLeft}
-use Rattle.escape_framing.specs.Read.{ReadsEvent, TakesMemoryAt, held_after}
+use Rattle.escape_framing.specs.Read.{whole_control, whole_stray, ReadsEvent, TakesMemoryAt, held_after}
+use Rattle.escape_framing.specs.Segment.{IsControl, IsPrintable}
 use Rattle.escape_framing.specs.FramerView.{kept_as}
 use Rattle.escape_framing.specs.declared.states.State.{State}
 use Rattle.escape_framing.specs.declared.states.State.TheVariants as state
@@ -21,11 +22,14 @@ use Rattle.escape_framing.specs.declared.event.Event.{Event}
 use Rattle.escape_framing.specs.declared.event.Event.TheVariants as event
 use Rattle.escape_framing.specs.declared.event.Read.{Read}
 use Rattle.escape_framing.specs.declared.event.Read.TheVariants as read
+use Rattle.escape_framing.proofs.FirstLemmas.{first_control, first_stray}
 use Rattle.escape_framing.proofs.FramedLemmas.{never_lent}
+use Rattle.escape_framing.proofs.LenLemmas.{none_begins, none_stray}
 use Rattle.escape_framing.proofs.SoundLemmas.{IsSoundIn, reached_sound}
 use Rattle.escape_framing.proofs.SingleLemmas.{carried_none, some_or_none}
 use Rattle.escape_framing.proofs.BreakLemmas.{lead_of}
 use Rattle.escape_framing.proofs.StepLemmas.{frames_text, text_ends, frames_broken, broken_same, frames_alone, nothing_reached}
+use Rattle.escape_framing.proofs.TextLemmas.{other_step}
 use Rattle.escape_framing.proofs.BodyLemmas.{opens_read, opens_left, closed_takes_none, none_more}
 use Rattle.escape_framing.proofs.PrefixLemmas.{reads_sequence}
 use Rattle.std.proofs.lemmas.Bool.{cases_Bool}
@@ -204,3 +208,42 @@ reads_whole old s w xs p q body bytes remaining n control v e is k t last =
     let waits : w ≡ false = ap (λ (l : Lending). l.held.waiting) v ∙ ap (λ (h : Held). h.waiting) e in
     let same : record { kept = kept_as s xs q body; waiting = w } ≡ old.held = (λ i. record { kept = kept i; waiting = waits i }) ∙ sym e in
     reads_sequence old.held bytes remaining n control last.1.0 (shown s w xs q body) e (same ∙ e) is k t last.0 last.1.1
+
+-- ---- a control or a text where nothing is held
+
+pub reads_control : (l : Lending) (bytes rest : List ℕ) (b : ℕ) → l.held ≡ nothing_held → bytes ≡ b ∷ rest → IsControl b → ReadsEvent l.held bytes (whole_control b) l
+reads_control l bytes rest b h is k =
+    reads_one l.held b rest bytes l (Some (event.Control b)) is
+    (ap (λ (x : Held). held_step x b) h ∙ other_step [] b (λ e. let m = low in omega arith) ∙ ap (λ (t : Step). handed t false) (first_control b either escapes) ∙ (λ i. record { dispatches = stream.Control b ∷ []; held = sym h i }))
+    (λ t. subst BeginsNoText (sym is) (none_begins b rest low unprintable))
+  where
+    low : b < 0x80
+    low = ⊎_elim (λ m. let n = m.0 in omega arith) (λ e. omega arith) k
+
+    either : (b < 0x20) ⊎ (b ≡ 0x7F)
+    either = ⊎_elim (λ m. inl m.0) inr k
+
+    escapes : b ≢ 0x1B
+    escapes = ⊎_elim (λ m. m.1) (λ e z. omega arith) k
+
+    unprintable : IsPrintable b → ⊥
+    unprintable (inl r) = ⊎_elim (λ m. let n = m.0 in let g = r.0 in omega arith) (λ e. let g = r.1 in omega arith) k
+    unprintable (inr r) = let m = low in omega arith
+
+pub reads_stray : (l : Lending) (bytes rest : List ℕ) (b : ℕ) → l.held ≡ nothing_held → bytes ≡ b ∷ rest → 0x80 ≤ b → (b < 0xC2) ⊎ (0xF4 < b) → ReadsEvent l.held bytes (whole_stray 1) l
+reads_stray l bytes rest b h is low out =
+    reads_one l.held b rest bytes l (Some (event.Print 0xFFFD)) is
+    (ap (λ (x : Held). held_step x b) h ∙ other_step [] b (λ e. ⊎_elim (λ m. omega arith) (λ m. omega arith) out) ∙ ap (λ (t : Step). handed t false) (first_stray b low out) ∙ (λ i. record { dispatches = stream.Print 0xFFFD ∷ []; held = sym h i }))
+    (λ t. subst BeginsNoText (sym is) (none_stray b rest low out))
+
+pub reads_only_text : (l : Lending) (bytes rest : List ℕ) (b n : ℕ) → l.held ≡ nothing_held → bytes ≡ b ∷ rest → IsTextLen bytes n → 0 < n → ReadsEvent l.held bytes (read.Text n) l
+reads_only_text l bytes rest b n h is k z = reads_text_event l.held b n rest bytes l is (ap (λ (x : Held). takes_text x b) h) (ap begun_bytes h) k z h
+
+-- ---- the parameters that are kept of a list
+
+pub keeps_list : (old : Lending) (s : State) (w : Bool) (xs : List ℕ) (p q : Parameters) (body : List ℕ) → shown s w xs p body ≡ old → old.held ≡ nothing_held → shown s w xs q body ≡ record old { parameters = q }
+keeps_list old s w xs p q body v e =
+    let kept : kept_as s xs q body ≡ InCharacter [] = kept_rest s xs p q body (ap (λ (l : Lending). l.held.kept) v ∙ ap (λ (h : Held). h.kept) e) in
+    let waits : w ≡ false = ap (λ (l : Lending). l.held.waiting) v ∙ ap (λ (h : Held). h.waiting) e in
+    let same : record { kept = kept_as s xs q body; waiting = w } ≡ old.held = (λ i. record { kept = kept i; waiting = waits i }) ∙ sym e in
+    λ i. record { held = same i; parameters = q; body = ap (λ (l : Lending). l.body) v i }

@@ -1,5 +1,5 @@
 -- What a framer has read of some bytes.
-use Rattle.std.specs.Prelude.{◌≡◌, ◌≤◌, ◌<◌, ℕ, ◌+◌, List, [], ◌∷◌, length, take, drop, map, Some}
+use Rattle.std.specs.Prelude.{◌≡◌, ◌≤◌, ◌<◌, ℕ, ◌+◌, List, [], ◌∷◌, length, take, drop, map, Some, None}
 use Rattle.escape_framing.specs.Held.{Held, TakesMemory, hand_out}
 use Rattle.escape_framing.specs.Framed.{Framed, Text, Single, IsText, IsReached, IsCarried, Frames}
 use Rattle.escape_framing.specs.Lending.{Lending}
@@ -29,6 +29,22 @@ whole_sequence final n = read.Bytes (Some (event.ControlSequence final)) n
 -- an operating system command of n bytes
 abbrev pub whole_command : ℕ → Read
 whole_command n = read.Bytes (Some event.OperatingSystemCommand) n
+
+-- a control, which is one byte
+abbrev pub whole_control : ℕ → Read
+whole_control b = read.Bytes (Some (event.Control b)) 1
+
+-- U+FFFD for n bytes: one that is part of no character, or those of a character that the byte after them breaks off
+abbrev pub whole_stray : ℕ → Read
+whole_stray n = read.Bytes (Some (event.Print 0xFFFD)) n
+
+-- an ESC pair, which is two bytes
+abbrev pub whole_escape : ℕ → Read
+whole_escape b = read.Bytes (Some (event.Escape None b)) 2
+
+-- a byte of a device control string
+abbrev pub whole_data : ℕ → Read
+whole_data b = read.Bytes (Some (event.Data b)) 1
 
 -- what is held after the first n bytes
 abbrev pub held_after : Held → List ℕ → ℕ → Held

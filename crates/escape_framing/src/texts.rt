@@ -30,6 +30,7 @@ fn run_len(bytes: &[u8]) -> usize
 {
     match bytes.split_first() {
         Some((byte, _)) if is_printable(*byte) => printable_len(bytes),
+        Some((byte, _)) if *byte < 0xc2 => 0,
         _ => character_len(bytes),
     }
 }

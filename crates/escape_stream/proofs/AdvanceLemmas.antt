@@ -8,7 +8,7 @@ use Rattle.std.proofs.lemmas.List.{drop-drop}
 use Rattle.escape_framing.specs.Held.{Held, TakesMemory, hand_out, held_of}
 use Rattle.escape_framing.specs.Framed.{framed, framed_after, placed_after, begun_bytes}
 use Rattle.escape_framing.specs.Lending.{Lending}
-use Rattle.escape_framing.specs.Read.{ReadsEvent, count_of, held_after, whole_command}
+use Rattle.escape_framing.specs.Read.{ReadsEvent, count_of, held_after, whole_command, whole_sequence}
 use Rattle.escape_framing.specs.declared.error.ParseError.{ParseError}
 use Rattle.escape_framing.specs.declared.error.ParseError.TheVariants as refusal
 use Rattle.escape_framing.specs.declared.event.Event.{Event}
@@ -20,11 +20,13 @@ use Rattle.escape_framing.specs.declared.event.Read.TheVariants as read
 use Rattle.escape_framing.proofs.HeldLemmas.{held_append}
 use Rattle.escape_framing.proofs.SpellLemmas.{placed_same}
 use Rattle.escape_stream.specs.Pieces.{Piece, Text, Single, pieces_of, pieces}
-use Rattle.escape_stream.specs.PiecesView.{parser_of, open_pieces, held_at_end, items_at, items_left, ready_at, AsksMemory, FirstTakesMemory, ReadsBody, ReadsBodyFirst, HaveSameBodies, held_at, pieces_at, pieces_after, IsReady, PiecesGo, IsOpen, IsOver, IsUnderWay, GivesPiece, HasGiven, GoesOn, SameBut, FindsHere, HandsOutOf, IsGoing, Begins as BeginsEvent}
-use Rattle.escape_stream.specs.Walking.{FindsWhole}
+use Rattle.escape_stream.specs.PiecesView.{parser_of, open_pieces, held_at_end, items_at, items_left, ready_at, AsksMemory, FirstTakesMemory, ReadsBody, HaveSameBodies, held_at, pieces_at, pieces_after, IsReady, PiecesGo, IsOpen, IsOver, IsUnderWay, GivesPiece, HasGiven, GoesOn, SameBut, FindsHere, HandsOutOf, IsGoing, Begins as BeginsEvent}
+use Rattle.escape_stream.specs.Walking.{FindsWhole, FindsPiece, ReadsList}
+use Rattle.csi_codec.specs.Tokens.{parameters_of}
+use Rattle.escape_framing.specs.Prefixes.{IsShortList}
 use Rattle.escape_stream.specs.ParserShown.{Parsing, lending_in}
 use Rattle.escape_stream.specs.Sequences.{FirstTakes, Gives, actions_left, event_actions}
-use Rattle.escape_stream.specs.StreamAction.{StreamAction, command}
+use Rattle.escape_stream.specs.StreamAction.{StreamAction, command, csi}
 use Rattle.escape_stream.specs.StreamActionView.{value_of}
 use Rattle.escape_stream.specs.declared.action.Action.{Action}
 use Rattle.escape_stream.specs.declared.pieces.Piece.{Piece as PieceCode}
@@ -69,6 +71,15 @@ ready_too old new s u = record {
 ends_too : (old new : Pieces) → SameBut old new → held_at_end new ≡ held_at_end old
 ends_too old new s = rw (s.parser, s.count, s.bytes) refl
 
+pub ready_with : (it : Pieces) (s : Option Sequence) → IsUnderWay it → IsUnderWay (record it { sequence = s })
+ready_with it s u = record { within = u.within; reached = u.reached; carried = u.carried }
+
+pub going_with : (it : Pieces) (s : Option Sequence) → IsGoing it → IsGoing (record it { sequence = s })
+going_with it s g = record { «open» = g.open; ready = ready_with it s g.ready; failed = g.failed }
+
+same_with : (it : Pieces) (s : Option Sequence) → SameBut it (record it { sequence = s })
+same_with it s = record { same = refl; parser = refl; bytes = refl; count = refl; stage = refl }
+
 pub stays : (it : Pieces) → IsUnderWay it → GoesOn it it
 stays it u = record { same = λ start. refl; ready = u; ends = refl; bodies = bodies_here it }
 
@@ -86,6 +97,31 @@ gives_action first old new a g s e = record {
   done = λ z. cc;
   bodies = bodies_join first old new g.bodies (bodies_too old new s);
 }
+
+-- only the actions of a control sequence have changed, and what is lent: one is handed out, or they are the same
+module _ (old new : Pieces) (u : IsUnderWay old) (h : new.parser.now.held ≡ old.parser.now.held) (b : new.bytes ≡ old.bytes) (k : new.count ≡ old.count) where
+  pub ready_alike : IsUnderWay new
+  ready_alike = record { within = rw (k, b) u.within; reached = rw h u.reached; carried = rw (h, k, b) u.carried }
+
+  pieces_alike : (start : ℕ) → pieces_of (framed_after start (start + new.count) new.parser.now.held (drop new.count new.bytes.now)) ≡ pieces_of (framed_after start (start + old.count) old.parser.now.held (drop old.count old.bytes.now))
+  pieces_alike start i = pieces_of (framed_after start (start + k i) (h i) (drop (k i) (b i).now))
+
+  pub gives_alike : (a : Action) → actions_left old.parser.now.parameters old.sequence ≡ value_of a ∷ actions_left new.parser.now.parameters new.sequence → HasGiven old (Some (code.Action a)) new
+  gives_alike a e = record {
+    gives = λ start. (Single (value_of a), refl, λ i. map Single (e i) ++ sym (pieces_alike start) i);
+    ready = ready_alike;
+    ends = rw (h, k, b) refl;
+    done = λ z. cc;
+    bodies = bodies_at old new h b k;
+  }
+
+  pub goes_alike : actions_left old.parser.now.parameters old.sequence ≡ actions_left new.parser.now.parameters new.sequence → GoesOn old new
+  goes_alike e = record {
+    same = λ start i. map Single (sym e i) ++ pieces_alike start i;
+    ready = ready_alike;
+    ends = rw (h, k, b) refl;
+    bodies = bodies_at old new h b k;
+  }
 
 -- nothing is left of it
 pub sequence_over : (first old new : Pieces) → GoesOn first old → SameBut old new → actions_left old.parser.now.parameters old.sequence ≡ [] → new.sequence ≡ None → GoesOn first new
@@ -222,6 +258,17 @@ module _ (old new : Pieces) (n : ℕ) (l : Lending) (e : Event) (h : HasRead old
         bodies = bodies_read old new (read.Bytes (Some e) n) l h;
       }
 
+  -- all its actions remain, as those of a control sequence
+  pub goes_begun : (s : Sequence) → event_actions l e ≡ actions_left new.parser.now.parameters (Some s) → GoesOn old (record new { sequence = Some s })
+  goes_begun s g =
+      let w = read_ready old new (read.Bytes (Some e) n) l h in
+      record {
+        same = λ start. sym (event_whole start (actions_left new.parser.now.parameters (Some s)) g);
+        ready = ready_with new (Some s) w.0;
+        ends = w.1;
+        bodies = bodies_join old new (record new { sequence = Some s }) (bodies_read old new (read.Bytes (Some e) n) l h) (bodies_too new (record new { sequence = Some s }) (same_with new (Some s)));
+      }
+
 -- the first action of a control sequence
 pub begins_sequence : (old new : Pieces) (e : Event) (s : Sequence) (answer : Result (Option Action) AllocError) → HandsOutOf (record old { sequence = Some s }) (Some s) answer new → actions_left old.parser.now.parameters (Some s) ≡ event_actions (lending_in old.parser.now) e → BeginsEvent old e answer new
 begins_sequence old new e s answer h is = record {
@@ -291,6 +338,11 @@ asks_event old new n l e h t = inr (λ start. subst FirstTakesMemory (sym (event
 
 -- ---- a whole command
 
+-- what the framer of a parser reads, the parser does
+pub framer_reads : (f : Lending) (p : Parsing) (bytes rest : List ℕ) (r : Read) (lent : Lending → Lending) → f ≡ lending_in p → bytes ≡ rest → ReadsEvent f.held bytes r (lent f)
+    → ReadsEvent p.held rest r (lent (lending_in p))
+framer_reads f p bytes rest r lent is at reads = subst (λ (x : List ℕ). ReadsEvent p.held x r (lent (lending_in p))) at (subst (λ (l : Lending). ReadsEvent l.held bytes r (lent l)) is reads)
+
 pub finds_command : (old : Pieces) (n : ℕ) (body : List ℕ) (answer : Result Action AllocError) → IsGoing old → old.sequence ≡ None → old.count ≢ length old.bytes.now
     → ReadsEvent old.parser.now.held (drop old.count old.bytes.now) (whole_command n) (record (lending_in old.parser.now) { body = body }) → IfOk answer (λ action. value_of action ≡ command (osc_reading (parts_of body)))
     → FindsWhole old (Some answer) (record old { count = old.count + n })
@@ -316,6 +368,53 @@ finds_command old n body answer going over some reads is = record {
     found : (answer : Result Action AllocError) → IfOk answer (λ action. value_of action ≡ command (osc_reading (parts_of body))) → IfOk answer (λ action. HasGiven old (Some (code.Action action)) new)
     found (Ok action) is = gives_event old new n l event.OperatingSystemCommand h action (λ i. sym is i ∷ actions_left old.parser.now.parameters (sym over i))
     found (Err error) is = tt
+
+-- ---- an event or a text at the start
+
+pub finds_event : {A : Type 0} (piece_of : A → PieceCode) (old : Pieces) (n : ℕ) (e : Event) (found : A) (action : Action) → piece_of found ≡ code.Action action → IsGoing old → old.sequence ≡ None
+    → ReadsEvent old.parser.now.held (drop old.count old.bytes.now) (read.Bytes (Some e) n) (lending_in old.parser.now) → event_actions (lending_in old.parser.now) e ≡ value_of action ∷ [] → FindsPiece piece_of old (Some found) (record old { count = old.count + n })
+finds_event piece_of old n e found action is going over reads gives =
+    let l = lending_in old.parser.now in
+    let new : Pieces = record old { count = old.count + n } in
+    let h : HasRead old (read.Bytes (Some e) n) l new = record { under = going.ready; over = over; reads = reads; held = refl; parameters = refl; bytes = refl; count = refl } in
+    record {
+      same = refl;
+      stage = refl;
+      failed = going.failed;
+      finds = subst (λ (x : PieceCode). HasGiven old (Some x) new) (sym is)
+          (gives_event old new n l e h action (gives ∙ ap (λ (q : Option Sequence). value_of action ∷ actions_left old.parser.now.parameters q) (sym over)));
+      none = λ z. cc;
+    }
+
+pub finds_text : (old : Pieces) (n : ℕ) (t : Bor (List ℕ)) → IsGoing old → old.sequence ≡ None → ReadsEvent old.parser.now.held (drop old.count old.bytes.now) (read.Text n) (lending_in old.parser.now) → t.now ≡ take n (drop old.count old.bytes.now)
+    → FindsPiece (λ (x : Bor (List ℕ)). code.Text x) old (Some t) (record old { count = old.count + n })
+finds_text old n t going over reads is =
+    let l = lending_in old.parser.now in
+    let new : Pieces = record old { count = old.count + n } in
+    let h : HasRead old (read.Text n) l new = record { under = going.ready; over = over; reads = reads; held = refl; parameters = refl; bytes = refl; count = refl } in
+    record { same = refl; stage = refl; failed = going.failed; finds = gives_text old new n l t h over is; none = λ z. cc }
+
+-- ---- a control sequence at the start
+
+pub reads_listed : (old : Pieces) (list : Bor (List ℕ)) (b n : ℕ) → n ≡ length list.now + 3 → IsGoing old → old.sequence ≡ None → IsShortList list.now
+    → ReadsEvent old.parser.now.held (drop old.count old.bytes.now) (whole_sequence b (length list.now + 3)) (record (lending_in old.parser.now) { parameters = parameters_of list.now })
+    → ReadsList old (Some (list, b)) (record old { count = old.count + n })
+reads_listed old list b n k going over short reads =
+    let l = record (lending_in old.parser.now) { parameters = parameters_of list.now } in
+    let new : Pieces = record old { count = old.count + n; parser = record old.parser { now = record old.parser.now { parameters = parameters_of list.now } } } in
+    let h : HasRead old (whole_sequence b (length list.now + 3)) l new = record { under = going.ready; over = over; reads = reads; held = refl; parameters = refl; bytes = refl; count = ap (λ (m : ℕ). old.count + m) k } in
+    let w = read_ready old new (whole_sequence b (length list.now + 3)) l h in
+    record {
+      same = refl;
+      stage = refl;
+      parser = refl;
+      over = over;
+      ready = record { within = w.0.within; reached = w.0.reached; carried = w.0.carried };
+      list = short;
+      reads = λ offset starts. goes_begun old new (length list.now + 3) l (event.ControlSequence b) h (record { offset = offset; control = b })
+          (ap (map csi) (sym (starts (parameters_of list.now).tokens (parameters_of list.now).truncated b)));
+      none = λ z. cc;
+    }
 
 -- ---- where pieces begin
 

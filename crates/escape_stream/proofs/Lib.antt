@@ -17,4 +17,5 @@ pub mod SpokenLemmas
 pub mod JoinLemmas
 pub mod HandLemmas
 pub mod StepLemmas
+mod SequenceLemmas
 mod PartLemmas

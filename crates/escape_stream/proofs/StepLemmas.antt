@@ -1,6 +1,6 @@
 -- Steps of a walk over the bytes of a call.
-use Rattle.std.proofs.Common.{◌≡◌, inl, inr, ℕ, List, [], ◌∷◌, ◌++◌, length, map, Some, refl, ap, subst, sym, ◌∙◌, append_assoc, append-nil}
-use Rattle.std.specs.Prelude.{Err, IsErrOf}
+use Rattle.std.proofs.Common.{◌≡◌, inl, inr, ℕ, List, [], ◌∷◌, ◌++◌, length, map, Some, refl, ap, subst, sym, ◌∙◌, arith, append_assoc, append-nil, length-append, ◌≤◌, None}
+use Rattle.std.specs.Prelude.{Bool, true, false, Result, Ok, Err, IsErrOf}
 use Rattle.std.specs.List.{FoldsTo}
 use Rattle.std.proofs.lemmas.Fn.{FoldsTo-push}
 use Rattle.std.proofs.lemmas.List.{map-append}
@@ -12,9 +12,9 @@ use Rattle.escape_stream.specs.declared.pieces.Reading.{Reading}
 use Rattle.escape_stream.specs.Pieces.{Piece, pieces}
 use Rattle.escape_stream.specs.Items.{Item, item_of, items_of}
 use Rattle.escape_stream.specs.Performing.{PerformsSome, HaltsAt}
-use Rattle.escape_stream.specs.PiecesView.{open_pieces, BytesTakeMemory, PerformsUpToMemory, TakesMemoryBefore, AsksMemory, AsksMemoryLater, item_handed, IsPiece, IsUnderWay, HasGiven}
-use Rattle.escape_stream.specs.Walking.{Performs, ArePieces, HandsOver, Reaches, WalksAll, WalksSome, WalksTo}
-use Rattle.escape_stream.proofs.AdvanceLemmas.{bodies_here, bodies_join, body_after}
+use Rattle.escape_stream.specs.PiecesView.{open_pieces, BytesTakeMemory, PerformsUpToMemory, TakesMemoryBefore, AsksMemory, AsksMemoryLater, item_handed, IsPiece, IsUnderWay, GoesOn, HasGiven}
+use Rattle.escape_stream.specs.Walking.{Performs, ArePieces, HandsOver, Reaches, WalksAll, WalksSome, StepsTo, WalksTo}
+use Rattle.escape_stream.proofs.AdvanceLemmas.{bodies_here, bodies_join, body_after, fewer_left, stays, gives_none}
 use Rattle.escape_stream.proofs.HandLemmas.{same_item}
 
 -- ---- how far a walk has come
@@ -24,6 +24,12 @@ are_pushed [] [] p x h k = (k, tt)
 are_pushed [] (y ∷ ys) p x h k = absurd h
 are_pushed (q ∷ qs) [] p x h k = absurd h
 are_pushed (q ∷ qs) (y ∷ ys) p x h k = (h.0, are_pushed qs ys p x h.1 k)
+
+are_joined : (ps : List Piece) (xs : List PieceCode) (qs : List Piece) (ys : List PieceCode) → ArePieces ps xs → ArePieces qs ys → ArePieces (ps ++ qs) (xs ++ ys)
+are_joined [] [] qs ys h k = k
+are_joined [] (x ∷ xs) qs ys h k = absurd h
+are_joined (p ∷ ps) [] qs ys h k = absurd h
+are_joined (p ∷ ps) (x ∷ xs) qs ys h k = (h.0, are_joined ps xs qs ys h.1 k)
 
 are_items : (ps : List Piece) (xs : List PieceCode) → ArePieces ps xs → items_of ps ≡ map item_handed xs
 are_items [] [] h = refl
@@ -37,6 +43,10 @@ items_over done old new start h = ap items_of h.whole ∙ map-append item_of h.p
 module _ {P : Type 0} (does : P → Item → P → Type 0) where
   abbrev by_code : P → PieceCode → P → Type 0
   by_code before x after = does before (item_handed x) after
+
+  folds_join : (p q last : P) (xs ys : List PieceCode) → FoldsTo by_code p xs q → FoldsTo by_code q ys last → FoldsTo by_code p (xs ++ ys) last
+  folds_join p q last [] ys s t = subst (λ (x : P). FoldsTo by_code x ys last) (sym s) t
+  folds_join p q last (x ∷ xs) ys s t = (s.0, s.1, folds_join s.0 q last xs ys s.2 t)
 
   pub reaches_here : (it : Reading) (p : P) → IsUnderWay it → Reaches does it p it p
   reaches_here it p u = record { done = []; performed = refl; handed = λ start. record { pieces = []; are = tt; whole = refl }; ready = u; ends = refl; bodies = bodies_here it }
@@ -57,6 +67,29 @@ module _ {P : Type 0} (does : P → Item → P → Type 0) where
     ends = g.ends ∙ r.ends;
     bodies = bodies_join old mid new r.bodies g.bodies;
   }
+
+  pub reaches_join : (old mid new : Reading) (p q last : P) → Reaches does old p mid q → Reaches does mid q new last → Reaches does old p new last
+  reaches_join old mid new p q last r t = record {
+    done = r.done ++ t.done;
+    performed = folds_join p q last r.done t.done r.performed t.performed;
+    handed = λ start.
+        let h = r.handed start in
+        let k = t.handed start in
+        record {
+          pieces = h.pieces ++ k.pieces;
+          are = are_joined h.pieces r.done k.pieces t.done h.are k.are;
+          whole = h.whole ∙ ap (λ (l : List Piece). h.pieces ++ l) k.whole ∙ sym (append_assoc h.pieces k.pieces (open_pieces start new));
+        };
+    ready = t.ready;
+    ends = t.ends ∙ r.ends;
+    bodies = bodies_join old mid new r.bodies t.bodies;
+  }
+
+  pub reaches_goes : (old new : Reading) (p : P) → GoesOn old new → Reaches does old p new p
+  reaches_goes old new p g = record { done = []; performed = refl; handed = λ start. record { pieces = []; are = tt; whole = sym (g.same start) }; ready = g.ready; ends = g.ends; bodies = g.bodies }
+
+  pub shorter : (old new : Reading) (p q : P) → Reaches does old p new q → length (open_pieces 0 new) ≤ length (open_pieces 0 old)
+  shorter old new p q r = let h = r.handed 0 in omega (arith, ap length h.whole, length-append h.pieces (open_pieces 0 new))
 
   folds_items : (p q : P) (xs : List PieceCode) → FoldsTo by_code p xs q → FoldsTo does p (map item_handed xs) q
   folds_items p q [] s = s
@@ -143,3 +176,58 @@ module _ {P E : Type 0} (does : P → Item → P → Type 0) (refuses : P → It
   walks_refused old mid new first p last x halted.Failed r g d = absurd d
   walks_refused old mid new first p last x halted.Memory r g d = absurd d
   walks_refused old mid new first p last x (halted.Refused e) r g d = record { it = mid; before = p; reached = r; refused = record { piece = x; given = g; performed = d } }
+
+  -- ---- steps
+
+  pub steps_given : (old new : Reading) (p last : P) (x : PieceCode) (answer : Result Bool (Halted E)) → IsUnderWay old → HasGiven old (Some x) new → Performs does refuses p (item_handed x) answer last → StepsTo does refuses old p answer new last
+  steps_given old new p last x (Ok true) u g d = absurd d
+  steps_given old new p last x (Ok false) u g d = (reaches_given does old old new p p last x (reaches_here does old p u) g d, fewer_left old new x g)
+  steps_given old new p last x (Err h) u g d = walks_refused old old new p p last x h (reaches_here does old p u) g d
+
+  walks_later : (old mid new : Reading) (first p last : P) (h : Halted E) → Reaches does old first mid p → WalksTo does refuses mid p (Err h) new last → WalksTo does refuses old first (Err h) new last
+  walks_later old mid new first p last halted.Failed r w = absurd w
+  walks_later old mid new first p last halted.Memory r w = record { it = w.it; reached = reaches_join does old mid w.it first p last r w.reached; memory = w.memory }
+  walks_later old mid new first p last (halted.Refused e) r w = record { it = w.it; before = w.before; reached = reaches_join does old mid w.it first p w.before r w.reached; refused = w.refused }
+
+  walks_all_later : (old mid new : Reading) (first p last : P) → Reaches does old first mid p → WalksAll does mid p new last → WalksAll does old first new last
+  walks_all_later old mid new first p last r w = record { it = w.it; reached = reaches_join does old mid w.it first p last r w.reached; none = w.none }
+
+  -- a walk that has come this far, and a step more
+  pub steps_later : (old mid new : Reading) (first p last : P) (h : Halted E) → Reaches does old first mid p → StepsTo does refuses mid p (Err h) new last → WalksTo does refuses old first (Err h) new last
+  steps_later old mid new first p last h r s = walks_later old mid new first p last h r s
+
+  pub steps_end : (old mid new : Reading) (first p last : P) → Reaches does old first mid p → StepsTo does refuses mid p (Ok true) new last → WalksAll does old first new last
+  steps_end old mid new first p last r s = walks_all_later old mid new first p last r s
+
+  pub steps_on : (old mid new : Reading) (first p last : P) → Reaches does old first mid p → StepsTo does refuses mid p (Ok false) new last → Reaches does old first new last
+  steps_on old mid new first p last r s = reaches_join does old mid new first p last r s.0
+
+  pub steps_join : (old mid new : Reading) (first p last : P) (answer : Result Bool (Halted E)) → Reaches does old first mid p → StepsTo does refuses mid p answer new last → StepsTo does refuses old first answer new last
+  steps_join old mid new first p last (Ok true) r s = walks_all_later old mid new first p last r s
+  steps_join old mid new first p last (Ok false) r s = (reaches_join does old mid new first p last r s.0, let l = shorter does old mid first p r in let f = s.1 in omega arith)
+  steps_join old mid new first p last (Err h) r s = walks_later old mid new first p last h r s
+
+  pub steps_goes : (old mid new : Reading) (p last : P) (answer : Result Bool (Halted E)) → GoesOn old mid → StepsTo does refuses mid p answer new last → StepsTo does refuses old p answer new last
+  steps_goes old mid new p last answer g s = steps_join old mid new p p last answer (reaches_goes does old mid p g) s
+
+  pub steps_at_end : (it : Reading) (p : P) → IsUnderWay it → it.sequence ≡ None → it.count ≡ length it.bytes.now → StepsTo does refuses it p (Ok true) it p
+  steps_at_end it p u q n = record { it = it; reached = reaches_here does it p u; none = gives_none it it (stays it u) q n }
+
+  pub steps_asks : (old new : Reading) (p : P) → IsUnderWay old → AsksMemory old → StepsTo does refuses old p (Err halted.Memory) new p
+  steps_asks old new p u a = record { it = old; reached = reaches_here does old p u; memory = a }
+
+  performed_one : (p last : P) (x : Item) (b : Bool) → Performs does refuses p x (Ok b) last → does p x last
+  performed_one p last x true d = absurd d
+  performed_one p last x false d = d
+
+  pub reaches_next : (old mid new : Reading) (first p last : P) (x : PieceCode) (b : Bool) → Reaches does old first mid p → HasGiven mid (Some x) new → Performs does refuses p (item_handed x) (Ok b) last → Reaches does old first new last
+  reaches_next old mid new first p last x b r g d = reaches_given does old mid new first p last x r g (performed_one p last (item_handed x) b d)
+
+  pub steps_last : (old mid next new : Reading) (first p last : P) (x : PieceCode) (b : Bool) → Reaches does old first mid p → HasGiven mid (Some x) next → GoesOn next new → Performs does refuses p (item_handed x) (Ok b) last → StepsTo does refuses old first (Ok false) new last
+  steps_last old mid next new first p last x b r g o d = (
+    reaches_join does old next new first last last (reaches_next old mid next first p last x b r g d) (reaches_goes does next new last o),
+    let l = shorter does old mid first p r in let f = fewer_left mid next x g in omega (arith, ap length (o.same 0)),
+  )
+
+  pub steps_none : (old new : Reading) (p : P) → IsUnderWay old → HasGiven old None new → StepsTo does refuses old p (Ok true) new p
+  steps_none old new p u g = record { it = old; reached = reaches_here does old p u; none = g }

@@ -146,7 +146,7 @@ impl Parser {
         if actions.is_empty() {
             false
         } else {
-            self.is_idle()
+            self.framer().is_idle()
         }
     }
 

@@ -1,9 +1,10 @@
 //! `Parser`: reads a stream of bytes as actions.
-ghost use Rattle.std.specs.Prelude.{◌≡◌, ◌↔◌, ℕ, true, false, IfOk, IfSome, OnErr, IsTrue, List, [], ◌++◌, length};
+ghost use Rattle.std.specs.Prelude.{◌≡◌, ◌↔◌, ◌+◌, ℕ, true, false, IfOk, IfSome, OnErr, IsTrue, List, [], ◌++◌, length};
 ghost use Rattle.std.specs.Prelude.{Some, None};
 ghost use Rattle.escape_framing.specs.Framed.{IsReached};
 ghost use Rattle.escape_framing.specs.Held.{TakesMemory, held_of, nothing_held};
-ghost use Rattle.escape_framing.specs.Read.{whole_command, ReadsEvent};
+ghost use Rattle.csi_codec.specs.Tokens.{parameters_of};
+ghost use Rattle.escape_framing.specs.Read.{ReadsEvent};
 ghost use Rattle.escape_osc.specs.Parts.{parts_of};
 ghost use Rattle.escape_osc.specs.Reading.{osc_reading};
 ghost use Rattle.escape_stream.specs.ParserShown.{lending_in};
@@ -72,11 +73,12 @@ impl Parser {
         self.failed
     }
 
-    // Whether nothing of the stream is unfinished.
-    pub(crate) fn is_idle(&self) -> bool
-        ensures { IsTrue result ↔ (self.now.held ≡ nothing_held) }
+    // The framer, which reads the stream.
+    #[inline(always)]
+    pub(crate) fn framer(&self) -> &Framer
+        ensures { result.now ≡ lending_in self.now }
     {
-        self.framer.is_idle()
+        &self.framer
     }
 
     // Marks the parser as failed, as it is until the pieces of a call end.
@@ -97,15 +99,12 @@ impl Parser {
         self.framer.next(bytes)
     }
 
-    // The body of the operating system command that is whole at the start of the bytes, and how many bytes are read
-    // with it.
-    #[inline(always)]
-    pub(crate) fn whole_command<'b>(&self, bytes: &'b [u8]) -> Option<(&'b [u8], usize)>
-        ensures { IfSome result
-            (λ c. ReadsEvent self.now.held bytes.now (whole_command c.1)
-            (record (lending_in self.now) { body = c.0.now })) }
+    // Keeps parameter bytes as those of the control sequence that was read last.
+    pub(crate) fn keep_parameters(&mut self, list: &[u8])
+        requires { self.old.held ≡ nothing_held }
+        ensures { self.new ≡ record self.old { parameters = parameters_of list.now } }
     {
-        self.framer.whole_command(bytes)
+        self.framer.keep_parameters(list);
     }
 
     // The action of the operating system command with this body.

@@ -29,6 +29,15 @@ impl Sequence {
         }
     }
 
+    /// A control sequence with this final byte, whose actions were read up to a position.
+    #[inline(always)]
+    pub(crate) fn at(offset: ParamCursor, control: u8) -> Sequence
+        ensures offset { result.offset ≡ offset }
+        ensures control { result.control ≡ control }
+    {
+        Sequence { offset, control }
+    }
+
     /// The next action, if there is one, with the parameters of the sequence.
     #[inline(always)]
     pub(crate) fn next(

@@ -94,7 +94,7 @@ lines_in_order version lines =
 by_head : (head : Head) (width height : ℕ) (input : List ℕ) (lines : List (List ℕ)) → AreFrom 0 (recording_by head width height input lines).events
 by_head Bytes width height input lines = (omega arith, tt)
 by_head (Bad fault) width height input lines = tt
-by_head (Recorded version columns rows) width height input lines = lines_in_order version lines
+by_head (Recorded version columns rows own) width height input lines = lines_in_order version lines
 
 by_lines : (width height : ℕ) (input : List ℕ) (lines : List (List ℕ)) → AreFrom 0 (recording_in width height input lines).events
 by_lines width height input [] = (omega arith, tt)

@@ -6,4 +6,4 @@ use Rattle.recordings.specs.declared.header.Head.TheVariants.{Bad, Bytes, Record
 abbrev pub head_value : Head → value.Head
 head_value Bytes = value.Bytes
 head_value (Bad fault) = value.Bad fault
-head_value (Recorded version size) = value.Recorded version size.width size.height
+head_value (Recorded version size has_own_term) = value.Recorded version size.width size.height has_own_term

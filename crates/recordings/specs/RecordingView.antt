@@ -9,5 +9,10 @@ abbrev pub reading_of : Reader → value.Reader
 reading_of r = record { version = r.version; time = r.time; events = map event_of r.events.items; fault = r.fault }
 
 abbrev pub recording_value : Recording → value.Recording
-recording_value r =
-    record { width = r.size.width; height = r.size.height; events = map event_of r.events.items; fault = r.fault }
+recording_value r = record {
+  width = r.size.width;
+  height = r.size.height;
+  has_own_term = r.has_own_term;
+  events = map event_of r.events.items;
+  fault = r.fault;
+}

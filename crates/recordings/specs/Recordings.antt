@@ -3,7 +3,8 @@ use Rattle.std.specs.Prelude.{Bool, true, false, ℕ, ◌+◌, ◌==◌, ◌||�
 use Rattle.std.specs.Prelude.{Ok, Err, codes, length, slice_index, option_and_then, is_some, nat_le, nat_lt}
 use Rattle.std.specs.Prelude.{if◌then◌else◌}
 use Rattle.std.specs.List.{slice_split}
-use Rattle.json.specs.Find.{as_number, get}
+use Rattle.std.specs.Str.{bytes_eq}
+use Rattle.json.specs.Find.{as_number, as_str, get}
 use Rattle.json.specs.Json.{Json}
 use Rattle.recordings.specs.Events.{Act, Output, Event, Entry, entry_in, json_of}
 use Rattle.recordings.specs.Numerals.{count_of, size_of, too_late}
@@ -17,31 +18,42 @@ use Rattle.recordings.specs.declared.header.Version.TheVariants.{Two, Three}
 -- ---- the header
 
 -- a first line: no header (the bytes of an application), a header that is wrong, or a header of a version, with columns
--- and rows
+-- and rows, and whether its TERM is the project's own
 pub data Head : Type 0 where
   Bytes : Head
   Bad : Fault → Head
-  Recorded : Version → ℕ → ℕ → Head
+  Recorded : Version → ℕ → ℕ → Bool → Head
 
 -- the number of the member `name`, if it has one that `read` reads
 abbrev pub member_of : (List ℕ → Option ℕ) → List ℕ → Json → Option ℕ
 member_of read name value = option_and_then read (option_and_then as_number (get name value))
 
-abbrev pub head_of_size : Version → Option ℕ → Option ℕ → Head
-head_of_size version None height = Bad HeaderSize
-head_of_size version (Some width) None = Bad HeaderSize
-head_of_size version (Some width) (Some height) = Recorded version width height
+-- the text of the member `name`, if it has one
+abbrev pub text_in : List ℕ → Json → Option (List ℕ)
+text_in name value = option_and_then as_str (get name value)
 
--- version 2 has the size in `width` and `height`
+-- whether the TERM of an application, if it is known, is the name of the project's own terminal description
+abbrev pub is_own_term : Option (List ℕ) → Bool
+is_own_term None = false
+is_own_term (Some term) = bytes_eq term (codes "rilqamyn")
+
+abbrev pub head_of_size : Version → Option (List ℕ) → Option ℕ → Option ℕ → Head
+head_of_size version term None height = Bad HeaderSize
+head_of_size version term (Some width) None = Bad HeaderSize
+head_of_size version term (Some width) (Some height) = Recorded version width height (is_own_term term)
+
+-- version 2 has the size in `width` and `height`, and the TERM in `TERM` of the member `env`
 abbrev pub second_head : Json → Head
 second_head header =
-    head_of_size Two (member_of size_of (codes "width") header) (member_of size_of (codes "height") header)
+    head_of_size Two (option_and_then (text_in (codes "TERM")) (get (codes "env") header))
+    (member_of size_of (codes "width") header) (member_of size_of (codes "height") header)
 
--- version 3 has the size in `cols` and `rows` of the member `term`
+-- version 3 has the size in `cols` and `rows` of the member `term`, and the TERM in its `type`
 abbrev pub term_head : Option Json → Head
 term_head None = Bad HeaderSize
 term_head (Some term) =
-    head_of_size Three (member_of size_of (codes "cols") term) (member_of size_of (codes "rows") term)
+    head_of_size Three (text_in (codes "type") term)
+    (member_of size_of (codes "cols") term) (member_of size_of (codes "rows") term)
 
 abbrev pub head_by : Option ℕ → Json → Head
 head_by None header = Bytes
@@ -114,10 +126,12 @@ lines_read number reading (line ∷ lines) = lines_read (number + 1) (line_read 
 
 -- ---- the whole
 
--- the size at first, the events in turn, and the line that is wrong, if one is, after which nothing was read
+-- the size at first, whether the application ran under the project's own TERM, the events in turn, and the line that is
+-- wrong, if one is, after which nothing was read
 pub record Recording : Type 0 where
   pub width : ℕ
   pub height : ℕ
+  pub has_own_term : Bool
   pub events : List Event
   pub fault : Option BadLine
 
@@ -128,26 +142,41 @@ lines_of input = slice_split (λ byte. byte == 10) input
 abbrev pub reading_first : Version → Reader
 reading_first version = record { version = version; time = 0; events = []; fault = None }
 
-abbrev pub recording_read : ℕ → ℕ → Reader → Recording
-recording_read width height reading =
-    record { width = width; height = height; events = reading.events; fault = reading.fault }
+abbrev pub recording_read : ℕ → ℕ → Bool → Reader → Recording
+recording_read width height has_own_term reading = record {
+  width = width;
+  height = height;
+  has_own_term = has_own_term;
+  events = reading.events;
+  fault = reading.fault;
+}
 
--- a recording of the bytes of an application, all of them written at the beginning
+-- a recording of the bytes of an application, all of them written at the beginning; their TERM isn't known
 abbrev pub bytes_recording : ℕ → ℕ → List ℕ → Recording
-bytes_recording width height input =
-    record { width = width; height = height; events = record { time = 0; act = Output input } ∷ []; fault = None }
+bytes_recording width height input = record {
+  width = width;
+  height = height;
+  has_own_term = false;
+  events = record { time = 0; act = Output input } ∷ [];
+  fault = None;
+}
 
 -- a recording whose header is wrong, without events
 abbrev pub bad_recording : ℕ → ℕ → Fault → Recording
-bad_recording width height fault =
-    record { width = width; height = height; events = []; fault = Some (record { line = 1; fault = fault }) }
+bad_recording width height fault = record {
+  width = width;
+  height = height;
+  has_own_term = false;
+  events = [];
+  fault = Some (record { line = 1; fault = fault });
+}
 
 -- an input without a header is the bytes of an application
 abbrev pub recording_by : Head → ℕ → ℕ → List ℕ → List (List ℕ) → Recording
 recording_by Bytes width height input lines = bytes_recording width height input
 recording_by (Bad fault) width height input lines = bad_recording width height fault
-recording_by (Recorded version columns rows) width height input lines =
-    recording_read columns rows (lines_read 2 (reading_first version) lines)
+recording_by (Recorded version columns rows has_own_term) width height input lines =
+    recording_read columns rows has_own_term (lines_read 2 (reading_first version) lines)
 
 abbrev pub recording_in : ℕ → ℕ → List ℕ → List (List ℕ) → Recording
 recording_in width height input [] = bytes_recording width height input

@@ -1,11 +1,11 @@
 //! The header of a recording.
-ghost use Rattle.std.specs.Prelude.{◌≡◌, ◌<◌, ◌≤◌, IfOk, IfSome, Some, codes, option_map};
+ghost use Rattle.std.specs.Prelude.{◌≡◌, ◌<◌, ◌≤◌, IfOk, IfSome, Some, codes, option_and_then, option_map};
 ghost use Rattle.json.specs.Find.{get};
 ghost use Rattle.json.specs.Value.{value_view};
 ghost use Rattle.recordings.specs.Numerals.{count_of, size_of};
 ghost use Rattle.recordings.specs.HeadView.{head_value};
-ghost use Rattle.recordings.specs.Recordings.{head_by, head_in, head_of, head_of_size, member_of, second_head};
-ghost use Rattle.recordings.specs.Recordings.{term_head};
+ghost use Rattle.recordings.specs.Recordings.{head_by, head_in, head_of, head_of_size, is_own_term, member_of};
+ghost use Rattle.recordings.specs.Recordings.{second_head, term_head, text_in};
 
 use crate::entry::json_of;
 use crate::fault::Fault;
@@ -30,8 +30,8 @@ pub(crate) enum Head {
     Bytes,
     /// A header that is wrong.
     Bad(Fault),
-    /// The header of a version, with its size.
-    Recorded(Version, Size),
+    /// The header of a version, with its size, and whether its TERM is the project's own.
+    Recorded(Version, Size, bool),
 }
 
 // The member of a name that is a number of columns or rows.
@@ -42,26 +42,59 @@ fn size_in(value: &Value<'_>, name: &str) -> Option<usize>
     size_of(value.get(name)?.as_number()?)
 }
 
-fn head_of_size(version: Version, width: Option<usize>, height: Option<usize>) -> Head
+// The text of the member of a name.
+fn text_in<'a>(value: &Value<'a>, name: &str) -> Option<&'a str>
+    ensures { option_map (λ t. t.now) result ≡ text_in name.now (value_view value.now) }
+{
+    value.get(name)?.as_str()
+}
+
+// The TERM in the environment of a header of version 2.
+fn second_term<'a>(header: &Value<'a>) -> Option<&'a str>
+    ensures { option_map (λ t. t.now) result
+        ≡ option_and_then (text_in (codes "TERM")) (get (codes "env") (value_view header.now)) }
+{
+    text_in(header.get("env")?, "TERM")
+}
+
+// Whether the TERM of an application is the name of the project's own terminal description.
+fn is_own_term(term: Option<&str>) -> bool
+    ensures { result ≡ is_own_term (option_map (λ t. t.now) term.entry) }
+{
+    match term {
+        Some(term) => term == "rilqamyn",
+        None => false,
+    }
+}
+
+fn head_of_size(
+    version: Version,
+    term: Option<&str>,
+    width: Option<usize>,
+    height: Option<usize>,
+) -> Head
     requires width { IfSome width (λ n. (0 < n) × (n ≤ 4096)) }
     requires height { IfSome height (λ n. (0 < n) × (n ≤ 4096)) }
-    ensures { head_value result ≡ head_of_size version width height }
+    ensures { head_value result ≡ head_of_size version (option_map (λ t. t.now) term.entry) width height }
 {
     match (width, height) {
-        (Some(width), Some(height)) => Head::Recorded(version, Size { width, height }),
+        (Some(width), Some(height)) => {
+            Head::Recorded(version, Size { width, height }, is_own_term(term))
+        }
         _ => Head::Bad(Fault::HeaderSize),
     }
 }
 
-// Version 2 has the size in `width` and `height`.
+// Version 2 has the size in `width` and `height`, and the TERM in `TERM` of the member `env`.
 fn second_head(header: &Value<'_>) -> Head
     ensures { head_value result ≡ second_head (value_view header.now) }
 {
     let width = size_in(header, "width");
-    head_of_size(Version::Two, width, size_in(header, "height"))
+    let height = size_in(header, "height");
+    head_of_size(Version::Two, second_term(header), width, height)
 }
 
-// Version 3 has the size in `cols` and `rows` of the member `term`.
+// Version 3 has the size in `cols` and `rows` of the member `term`, and the TERM in its `type`.
 fn third_head(header: &Value<'_>) -> Head
     ensures { head_value result ≡ term_head (get (codes "term") (value_view header.now)) }
 {
@@ -69,7 +102,8 @@ fn third_head(header: &Value<'_>) -> Head
         return Head::Bad(Fault::HeaderSize);
     };
     let width = size_in(term, "cols");
-    head_of_size(Version::Three, width, size_in(term, "rows"))
+    let height = size_in(term, "rows");
+    head_of_size(Version::Three, text_in(term, "type"), width, height)
 }
 
 // The number of a header's version.

@@ -16,6 +16,8 @@ use std::alloc::{AllocError, Global};
 pub struct Recording {
     /// The size of the terminal at first.
     pub size: Size,
+    /// Whether its header says that the application ran under `TERM=rilqamyn`, the project's own terminal description.
+    pub has_own_term: bool,
     /// The events in the order of their times.
     pub events: Vec<Event>,
     /// The line that is wrong, if one is; nothing was read of it and after it.
@@ -54,6 +56,7 @@ fn bytes_recording(alloc: Global, size: Size, input: &[u8]) -> Result<Recording,
     })?;
     Ok(Recording {
         size,
+        has_own_term: false,
         events,
         fault: None,
     })
@@ -65,6 +68,7 @@ fn bad_recording(alloc: Global, size: Size, fault: Fault) -> Recording
 {
     Recording {
         size,
+        has_own_term: false,
         events: Vec::new(alloc),
         fault: Some(BadLine { line: 1, fault }),
     }
@@ -75,16 +79,18 @@ fn lines_recording(
     alloc: Global,
     version: Version,
     size: Size,
+    has_own_term: bool,
     lines: &[&[u8]],
 ) -> Result<Recording, AllocError>
     ensures { IfOk result
         (λ recording. recording_value recording
-        ≡ recording_read size.width size.height
+        ≡ recording_read size.width size.height has_own_term
         (lines_read 2 (reading_first version) (map (λ line. line.now) lines.now))) }
 {
     let Reader { events, fault, .. } = read_lines(alloc, version, lines)?;
     Ok(Recording {
         size,
+        has_own_term,
         events,
         fault,
     })
@@ -94,8 +100,8 @@ fn lines_recording(
 /// that is a number; or else the bytes of an application, which are all written at the beginning to a terminal of this
 /// size.
 ///
-/// Of a recording its size, its outputs (`o`) and its resizes (`r`) are read; events of other codes and empty lines are
-/// skipped, and in version 3 lines that begin with `#`. Times are decimal numbers of seconds; fractions of a
+/// Of a recording its size, its TERM, its outputs (`o`) and its resizes (`r`) are read; events of other codes and empty
+/// lines are skipped, and in version 3 lines that begin with `#`. Times are decimal numbers of seconds; fractions of a
 /// microsecond are cut off. Those of version 3 are from one event, of any code, to the next, and their sums are exact.
 /// Takes memory in proportion to the input.
 #[tactic(auto, unfolding(crate::specs::Recordings::recording_of))]
@@ -109,6 +115,8 @@ pub fn read_recording(alloc: Global, size: Size, input: &[u8]) -> Result<Recordi
     match read_head(alloc, first)? {
         Head::Bytes => bytes_recording(alloc, size, input),
         Head::Bad(fault) => Ok(bad_recording(alloc, size, fault)),
-        Head::Recorded(version, size) => lines_recording(alloc, version, size, remaining),
+        Head::Recorded(version, size, has_own_term) => {
+            lines_recording(alloc, version, size, has_own_term, remaining)
+        }
     }
 }

@@ -35,3 +35,8 @@ pub line_ends : (old mid next new : Option (List ℕ)) (fault : List ℕ) → Ap
 line_ends old mid next new fault first second p = prefix_next old mid new (codes "relay: ") (fault ++ 10 ∷ []) first (prefix_next mid next new fault (10 ∷ []) second p)
 
 pub ruleset line_parts = (line_begins, line_goes_on, line_ends)
+
+-- three texts that are written one after another
+pub three_appended : (old mid next new : Option (List ℕ)) (first second third : List ℕ) → Appends old mid first → Appends mid next second → Appends next new third
+    → Appends old new (first ++ (second ++ third))
+three_appended old mid next new first second third a b c = Appends-trans old mid new first (second ++ third) a (Appends-trans mid next new second third b c)

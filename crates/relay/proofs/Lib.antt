@@ -1,7 +1,9 @@
 pub mod Numbers
 pub mod Flags
+mod AnswerLemmas
 mod FaultLemmas
 mod OutputLemmas
+mod ReadLemmas
 mod SettingFaults
 mod SettingLemmas
 mod SettingNumbers

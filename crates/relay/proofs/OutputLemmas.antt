@@ -1,24 +1,20 @@
 -- A writer that keeps its bytes, the cause of status 2, and the report where the status is 1.
-use Rattle.std.proofs.Common.{◌≡◌, ◌≢◌, ◌⊎◌, ℕ, inl, inr, Bool, true, false, List, [], ◌∷◌, ◌++◌, Option, Some, None, sym, ◌∙◌, append-nil, ap, arith, codes, refl, subst, Result, Err}
+use Rattle.std.proofs.Common.{◌≡◌, ◌≢◌, ◌⊎◌, ℕ, inl, inr, List, [], ◌∷◌, ◌++◌, Option, Some, None, sym, ◌∙◌, append-nil, ap, arith, codes, refl, subst, Result, Err}
 use Rattle.std.specs.Io.KnownBytes.{Appends, Keeps}
-use Rattle.std.specs.Prelude.{IfSome, if◌then◌else◌}
-use Rattle.cell_base.specs.Cluster.{program_width}
-use Rattle.terminal.specs.Refusals.{all_looks, one_look}
+use Rattle.std.specs.Prelude.{IfSome}
 use Rattle.terminal.specs.Shown.{AppendsPrefix}
 use Rattle.terminal.specs.Watched.{Watched}
 use Rattle.terminal.specs.declared.error.RunError.{RunError}
 use Rattle.terminal.specs.declared.error.RunError.TheVariants as run
-use Rattle.terminal.proofs.ReadAllLemmas.{nothing_read}
 use Rattle.terminal_steps.specs.declared.error.TerminalError.TheVariants as terminal
-use Rattle.clap.specs.Kinds.{HasKind}
-use Rattle.clap.specs.Words.{Kinds, Text, kind_of}
-use Rattle.clap.specs.declared.error.Error.{Error}
+use Rattle.clap.specs.Words.{Kinds, Text}
 use Rattle.clap.specs.declared.error.kind.ErrorKind.TheVariants as kind
-use Rattle.relay.specs.CommandLine.{HasMistake, width_in, height_in, every_in, show_in}
+use Rattle.relay.specs.CommandLine.{HasMistake, IsRefusedFor, asked_in, kind_in}
 use Rattle.relay.specs.Faults.{IsReported, fault_line, fault_text}
 use Rattle.relay.specs.Lent.{named}
-use Rattle.relay.specs.Output.{MemoryRunsOut}
 use Rattle.relay.specs.Reports.{EndsWithFault, ReportsFault}
+use Rattle.relay.specs.declared.options.BadWords.{BadWords}
+use Rattle.relay.proofs.AnswerLemmas.{memory_first}
 
 nothing_appended : (old new : Option (List ℕ)) → Keeps old new → Appends old new []
 nothing_appended None new kept = tt
@@ -32,11 +28,11 @@ none_of old new gives None kept = tt
 none_of old new gives (Some bytes) kept =
     record { written = []; remaining = gives bytes; whole = refl; appends = nothing_appended old new kept }
 
--- words whose error has one of some kinds are answered with status 2 only where one of these is a mistake
-pub mistake_in : (kinds : Kinds) (error : Error) (status : ℕ) → HasKind kinds error → (kind_of error ≡ kind.OutOfMemory → status ≡ 1)
-    → ((kind_of error ≡ kind.DisplayHelp) ⊎ (kind_of error ≡ kind.DisplayVersion) → status ≢ 2) → status ≡ 2 → HasMistake kinds
-mistake_in kinds error status (inl none) memory shown bad = let one : status ≡ 1 = memory none in absurd (omega arith)
-mistake_in kinds error status (inr among) memory shown bad = (kind_of error, among, λ h. shown (inl h) bad, λ v. shown (inr v) bad)
+-- words that are refused for one of some kinds are answered with status 2 only where one of these is a mistake
+pub mistake_in : (kinds : Kinds) (bad : BadWords) (status : ℕ) → IsRefusedFor kinds bad → (kind_in bad ≡ kind.OutOfMemory → status ≡ 1)
+    → ((kind_in bad ≡ kind.DisplayHelp) ⊎ (kind_in bad ≡ kind.DisplayVersion) → status ≢ 2) → status ≡ 2 → HasMistake kinds
+mistake_in kinds bad status (inl none) memory shown two = let one : status ≡ 1 = memory none in absurd (omega arith)
+mistake_in kinds bad status (inr among) memory shown two = (kind_in bad, among, λ h. shown (inl h) two, λ v. shown (inr v) two)
 
 -- ---- reports
 
@@ -47,24 +43,19 @@ reported_as contents old new error fault status code text e is one reported =
     let same : error ≡ fault = cc in
     (one, subst (λ t. IsReported contents old new (fault_line t)) (is ∙ ap fault_text same) reported)
 
--- an error is want of memory where its words are a command line that can be run
-pub of_memory : (kinds : Kinds) (error : Error) → HasKind kinds error → kinds ≡ [] → kind_of error ≡ kind.OutOfMemory
-of_memory kinds error (inl none) run = none
-of_memory [] error (inr among) run = absurd among
-of_memory (k ∷ kinds) error (inr among) run = absurd cc
+-- words that can be run are refused only for want of memory
+pub of_memory : (kinds : Kinds) (bad : BadWords) → IsRefusedFor kinds bad → kinds ≡ [] → kind_in bad ≡ kind.OutOfMemory
+of_memory kinds bad (inl none) run = none
+of_memory [] bad (inr among) run = absurd among
+of_memory (k ∷ kinds) bad (inr among) run = absurd cc
 
--- nothing was read yet
-memory_first : (is_show : Bool) (width height every : ℕ) (input : Option (List ℕ)) → IfSome input (MemoryRunsOut is_show width height every input)
-memory_first true width height every input = nothing_read program_width width height one_look input refl
-memory_first false width height every input = nothing_read program_width width height (all_looks every) input refl
-
--- so memory may be named then
+-- before anything was read memory may be named
 pub reports_first : (words : List Text) (old new input : Option (List ℕ)) → AppendsPrefix old new (fault_line (codes "out of memory"))
     → IfSome input (ReportsFault words input old new)
 reports_first words old new None written = tt
 reports_first words old new (Some bytes) written = record {
   fault = run.Terminal terminal.Memory;
-  right = memory_first (show_in words) (width_in words) (height_in words) (every_in words) (Some bytes);
+  right = memory_first (asked_in words) (Some bytes);
   written = written;
 }
 

@@ -1,28 +1,29 @@
 -- Words that are refused, and the options that accepted words give.
 use Rattle.std.proofs.Common.{◌≡◌, ◌∙◌, ◌&&◌, ◌≤◌, ◌==◌, cond, ℕ, zero, suc, length, Bool, true, false, List, [], ◌∷◌, ◌++◌, Option, Some, None, is_some, inl, inr, refl, ap, arith, subst, sym, codes, map}
-use Rattle.std.specs.Prelude.{drop, encode_utf8, pos, slice_get}
+use Rattle.std.specs.Prelude.{drop, encode_utf8, pos, slice_get, ⊤}
 use Rattle.std.specs.List.{AllByRecursion, IsDistinct}
 use Rattle.std.specs.Str.{bytes_eq, chars}
-use Rattle.std.proofs.lemmas.List.{append-nil}
+use Rattle.std.proofs.lemmas.List.{append-nil, append_assoc}
+use Rattle.std.proofs.lemmas.List.Sums.{fold-append}
 use Rattle.clap.specs.Faults.{flags_fault, long_fault, option_fault, react_fault, settle_fault, short_fault, step_fault, turn_fault, use_fault, walk_fault, word_fault}
 use Rattle.clap.specs.Kinds.{Kinds, or_else}
 use Rattle.clap.specs.Lexer.{long_of, short_of}
 use Rattle.clap.specs.Simple.{filled, help_rule, version_rule, with_index}
-use Rattle.clap.specs.Walk.{Held, Row, Rule, Text, Waiting, Walk, arg_by_long, arg_by_short, bundle_met, has_row, attached_value, idle, option, reacted, subcommand_met, takes_values, walked, word_met}
+use Rattle.clap.specs.Walk.{Held, Row, Rule, Text, Waiting, Walk, arg_by_long, arg_by_short, bundle_met, has_row, attached_value, idle, option, reacted, settled, subcommand_met, takes_values, walked, word_met}
 use Rattle.clap.specs.ValueTests.{is_signed_in}
 use Rattle.clap.specs.declared.error.kind.ErrorKind.{ErrorKind}
 use Rattle.clap.specs.declared.error.kind.ErrorKind.TheVariants as kind
 use Rattle.relay.specs.CommandLine.{command_line, flag_rule}
-use Rattle.relay.specs.Settings.{Setting, Show, Give, GiveAll, IsCommandLine, IsInRange, name_of}
+use Rattle.relay.specs.Settings.{Setting, Terminal, Show, Give, GiveAll, IsInRange, name_of}
 use Rattle.relay.proofs.SettingNumbers.{number_taken}
 use Rattle.relay.proofs.SettingRows.{had_none, row_for}
-use Rattle.relay.proofs.SettingWalk.{Numbered, Columns, Rows, Bytes, IsNew, awaiting, between, held, joined, joined_walk, line, name_for, number_settles, row_named, rows_at, settling, show_walk, walked_over, with_number}
-use Rattle.relay.proofs.SettingWords.{Lookup, after_name, dashes, long, short, odd, plain, lookup, Named, number, show, help, version, unknown, named}
+use Rattle.relay.proofs.SettingWalk.{Valued, Columns, Rows, Profiles, Bytes, IsNew, awaiting, between, held, joined, joined_walk, line, name_for, text_row, row_named, rows_at, settling, show_walk, walked_over, with_text}
+use Rattle.relay.proofs.SettingWords.{Lookup, after_name, dashes, long, short, odd, plain, lookup, Named, valued, show, help, version, unknown, named}
 
 abbrev IsFault : Kinds → Type 0
 IsFault kinds = kinds ≡ [] → ⊥
 
-some_fault : (k : ErrorKind) (ks : Kinds) → IsFault (k ∷ ks)
+pub some_fault : (k : ErrorKind) (ks : Kinds) → IsFault (k ∷ ks)
 some_fault k ks e = cc
 
 pub or_else_nil : (a b : Kinds) → or_else a b ≡ [] → (a ≡ []) × (b ≡ [])
@@ -35,7 +36,7 @@ fault_first a b fault e = fault (or_else_nil a b e).0
 fault_second : (a b : Kinds) → IsFault b → IsFault (or_else a b)
 fault_second a b fault e = fault (or_else_nil a b e).1
 
--- ---- an option in the position of a number
+-- ---- an option in the position of a text
 
 module _ (h : Held) (pending : IsFault (settle_fault line.rules false h)) where
   long_refused : (found : Option Rule) (text : Option Text) → IsFault (long_fault line.rules false found text h)
@@ -59,11 +60,12 @@ module _ (h : Held) (pending : IsFault (settle_fault line.rules false h)) where
       by_test true None = pending
       by_test false v = fault_first (react_fault line.rules false a [] h) _ (fault_first (settle_fault line.rules false h) _ pending)
 
--- a pending option without its number is a fault
-none_yet : (k : Numbered) (rows : List Row) → IsFault (settling rows (Some (name_for k, [])))
+-- a pending option without its text is a fault
+none_yet : (k : Valued) (rows : List Row) → IsFault (settling rows (Some (name_for k, [])))
 unfolding command_line
 none_yet Columns rows = some_fault kind.InvalidValue []
 none_yet Rows rows = some_fault kind.InvalidValue []
+none_yet Profiles rows = some_fault kind.InvalidValue []
 none_yet Bytes rows = some_fault kind.InvalidValue []
 
 -- ---- one word
@@ -111,35 +113,45 @@ trailing_refused : (h : Held) (waiting : Waiting) (word : Text)
 unfolding command_line
 trailing_refused h waiting word = some_fault kind.UnknownArgument []
 
--- ---- the word after an option that takes a number
+-- ---- the word after an option that takes a text
 
-value_walk : (k : Numbered) (rows : List Row) (word : Text) → bytes_eq word (codes "--") ≡ false → long_of word ≡ None → short_of word ≡ None
+value_walk : (k : Valued) (rows : List Row) (word : Text) → bytes_eq word (codes "--") ≡ false → long_of word ≡ None → short_of word ≡ None
     → walked line.rules [] (awaiting k rows) word ≡ between rows (Some (name_for k, word ∷ []))
 unfolding command_line walked
 value_walk Columns rows word a b c = rw (a, b, c) refl
 value_walk Rows rows word a b c = rw (a, b, c) refl
+value_walk Profiles rows word a b c = rw (a, b, c) refl
 value_walk Bytes rows word a b c = rw (a, b, c) refl
 
-odd_walk : (k : Numbered) (rows : List Row) (word : Text) (byte : ℕ) (flags : Text) → bytes_eq word (codes "--") ≡ false → long_of word ≡ None
+odd_walk : (k : Valued) (rows : List Row) (word : Text) (byte : ℕ) (flags : Text) → bytes_eq word (codes "--") ≡ false → long_of word ≡ None
     → short_of word ≡ Some (byte ∷ flags) → slice_get (chars (byte ∷ flags)) 0 ≡ None → walked line.rules [] (awaiting k rows) word ≡ between rows (Some (name_for k, word ∷ []))
 unfolding command_line walked bundle_met
 odd_walk Columns rows word byte flags a b c d = rw (a, b, c, d) refl
 odd_walk Rows rows word byte flags a b c d = rw (a, b, c, d) refl
+odd_walk Profiles rows word byte flags a b c d = rw (a, b, c, d) refl
 odd_walk Bytes rows word byte flags a b c d = rw (a, b, c, d) refl
 
-dashes_refused : (k : Numbered) (rows : List Row) (rest : List Text) → Passes (awaiting k rows) (codes "--" ∷ rest) → ⊥
+dashes_refused : (k : Valued) (rows : List Row) (rest : List Text) → Passes (awaiting k rows) (codes "--" ∷ rest) → ⊥
 unfolding walked
 dashes_refused k rows [] p = none_yet k rows p.settles
 dashes_refused k rows (word ∷ rest) p =
     let next = first_passes (awaiting k rows) (codes "--") (word ∷ rest) p in
     trailing_refused (held rows (Some (name_for k, []))) (option (name_for k)) word (first_passes _ word rest next.1).0
 
--- so the word is taken for the number, whatever its form
-value_passes : (k : Numbered) (rows : List Row) (word : Text) (rest : List Text) → Passes (awaiting k rows) (word ∷ rest) → Passes (between rows (Some (name_for k, word ∷ []))) rest
+-- the word is taken for the option's text
+pub record IsTaken (k : Valued) (rows : List Row) (word : Text) (rest : List Text) : Type 0 where
+  pub walk : walked line.rules [] (awaiting k rows) word ≡ between rows (Some (name_for k, word ∷ []))
+  pub passes : Passes (between rows (Some (name_for k, word ∷ []))) rest
+
+-- so it is, whatever its form
+value_passes : (k : Valued) (rows : List Row) (word : Text) (rest : List Text) → Passes (awaiting k rows) (word ∷ rest) → IsTaken k rows word rest
 value_passes k rows word rest p = by_lookup (lookup word) (first_passes (awaiting k rows) word rest p)
   where
-    by_lookup : Lookup word → (turn_fault line [] (awaiting k rows) word ≡ []) × Passes (walked line.rules [] (awaiting k rows) word) rest
-        → Passes (between rows (Some (name_for k, word ∷ []))) rest
+    taken : walked line.rules [] (awaiting k rows) word ≡ between rows (Some (name_for k, word ∷ []))
+        → Passes (walked line.rules [] (awaiting k rows) word) rest → IsTaken k rows word rest
+    taken walk passes = record { walk = walk; passes = subst (λ w. Passes w rest) walk passes }
+
+    by_lookup : Lookup word → (turn_fault line [] (awaiting k rows) word ≡ []) × Passes (walked line.rules [] (awaiting k rows) word) rest → IsTaken k rows word rest
     by_lookup (dashes is) f = absurd (dashes_refused k rows rest (subst (λ w. Passes (awaiting k rows) (w ∷ rest)) is p))
     by_lookup (long name text not_dashes is spelled) f =
         let h = held rows (Some (name_for k, [])) in
@@ -151,8 +163,8 @@ value_passes k rows word rest p = by_lookup (lookup word) (first_passes (awaitin
         let passes = word_passes (option (name_for k)) h word f.0 in
         absurd (short_refused h (none_yet k rows) (arg_by_short line.rules x) _ _
         (sym (short_fault_is (option (name_for k)) rows (Some (name_for k, [])) word byte flags x refl not_dashes no_long is first) ∙ passes))
-    by_lookup (odd byte flags not_dashes no_long is first) f = subst (λ w. Passes w rest) (odd_walk k rows word byte flags not_dashes no_long is first) f.1
-    by_lookup (plain not_dashes no_long no_short) f = subst (λ w. Passes w rest) (value_walk k rows word not_dashes no_long no_short) f.1
+    by_lookup (odd byte flags not_dashes no_long is first) f = taken (odd_walk k rows word byte flags not_dashes no_long is first) f.1
+    by_lookup (plain not_dashes no_long no_short) f = taken (value_walk k rows word not_dashes no_long no_short) f.1
 
 -- ---- a word between two options
 
@@ -190,13 +202,23 @@ flag_refused h x rest next = by_test (104 == x) (86 == x) refl refl
         let is : arg_by_short line.rules x ≡ None = rw (e, f) refl in
         subst (λ found. IsFault (short_fault line.rules false found rest h next)) (sym is) (some_fault kind.UnknownArgument [])
 
--- the options that the words give, all of them new after options that have these rows
-record GivenAfter (before : List Row) (words : List Text) : Type 0 where
+-- what the parser checks of the text of an option: that it is a number in its range
+abbrev pub Takes : Setting → Type 0
+Takes (Terminal text) = ⊤
+Takes s = IsInRange s
+
+-- the rows after a walk over words
+abbrev pub rows_found : Walk → List Text → List Row
+rows_found from words = (settled line.rules (walked_over from words).held).rows
+
+-- the options that the words give, all of them new after options that have these rows, and found by the walk
+pub record GivenAfter (from : Walk) (before : List Row) (words : List Text) : Type 0 where
   pub settings : List Setting
   pub give : GiveAll settings words
-  pub range : AllByRecursion IsInRange settings
+  pub taken : AllByRecursion Takes settings
   pub distinct : IsDistinct bytes_eq (map name_of settings)
   pub new : AllByRecursion (IsNew before) settings
+  pub found : rows_found from words ≡ before ++ map row_for settings
 
 -- options that are new after the row of `s` is added are new before it, and have other names than `s`
 older : (s : Setting) (before : List Row) (settings : List Setting) → AllByRecursion (IsNew (before ++ row_for s ∷ [])) settings
@@ -207,34 +229,38 @@ older s before (other ∷ remaining) new =
     let rest = older s before remaining new.1 in
     ((first.0, rest.0), (ap (λ name. bytes_eq name (name_of other)) (sym (row_named s)) ∙ first.1, rest.1))
 
-given_more : (before : List Row) (s : Setting) (first rest : List Text) → Give s first → IsInRange s → IsNew before s → GivenAfter (before ++ row_for s ∷ []) rest
-    → GivenAfter before (first ++ rest)
+given_more : (from next : Walk) (before : List Row) (s : Setting) (first rest : List Text) → walked_over from first ≡ next → Give s first → Takes s → IsNew before s
+    → GivenAfter next (before ++ row_for s ∷ []) rest → GivenAfter from before (first ++ rest)
 unfolding IsDistinct
-given_more before s first rest give range new more =
+given_more from next before s first rest leads give takes new more =
     let old = older s before more.settings more.new in
     record {
       settings = s ∷ more.settings;
       give = (first, rest, refl, give, more.give);
-      range = (range, more.range);
+      taken = (takes, more.taken);
       distinct = (old.1, more.distinct);
       new = (new, old.0);
+      found =
+          ap (λ (w : Walk). (settled line.rules w.held).rows) (fold-append (walked line.rules []) from first rest ∙ ap (λ w. walked_over w rest) leads)
+          ∙ more.found ∙ append_assoc before (row_for s ∷ []) (map row_for more.settings);
     }
 
 -- the pending option has no fault, and the words give options that are new after it
 abbrev Given : List Row → Option (Text × List Text) → List Text → Type 0
-Given rows pending words = (settling rows pending ≡ []) × GivenAfter (rows_at rows pending) words
+Given rows pending words = (settling rows pending ≡ []) × GivenAfter (between rows pending) (rows_at rows pending) words
 
 -- the induction hypothesis: words no longer than `rest` that pass give options
 abbrev More : List Text → Type 0
 More rest = (words : List Text) (rows : List Row) (pending : Option (Text × List Text)) → length words ≤ length rest → Passes (between rows pending) words → Given rows pending words
 
-nothing_given : (before : List Row) (words : List Text) → GiveAll [] words → GivenAfter before words
+nothing_given : (from : Walk) (before : List Row) (words : List Text) → GiveAll [] words → rows_found from words ≡ before → GivenAfter from before words
 unfolding IsDistinct
-nothing_given before words give = record { settings = []; give = give; range = tt; distinct = tt; new = tt }
+nothing_given from before words give found =
+    record { settings = []; give = give; taken = tt; distinct = tt; new = tt; found = found ∙ sym (append-nil before) }
 
 dashes_given : (rows : List Row) (pending : Option (Text × List Text)) (rest : List Text) → Passes (between rows pending) (codes "--" ∷ rest) → Given rows pending (codes "--" ∷ rest)
 unfolding walked
-dashes_given rows pending [] p = (p.settles, nothing_given (rows_at rows pending) (codes "--" ∷ []) (inr refl))
+dashes_given rows pending [] p = (p.settles, nothing_given (between rows pending) (rows_at rows pending) (codes "--" ∷ []) (inr refl) refl)
 dashes_given rows pending (word ∷ rest) p =
     let next = first_passes (between rows pending) (codes "--") (word ∷ rest) p in
     absurd (trailing_refused (held rows pending) idle word (first_passes _ word rest next.1).0)
@@ -245,74 +271,92 @@ use_passes true c k l e = absurd (some_fault k _ e)
 use_passes false true k l e = (refl, refl)
 use_passes false false k l e = absurd (some_fault l [] e)
 
-number_is_new : (k : Numbered) (text : Text) (rows : List Row) → settling rows (Some (name_for k, text ∷ [])) ≡ [] → IsInRange (with_number k text) × IsNew rows (with_number k text)
+text_is_new : (k : Valued) (text : Text) (rows : List Row) → settling rows (Some (name_for k, text ∷ [])) ≡ [] → Takes (with_text k text) × IsNew rows (with_text k text)
 unfolding command_line
-number_is_new Columns text rows e =
+text_is_new Columns text rows e =
     let taken = use_passes (has_row (codes "width") rows) (is_signed_in (pos 1) (pos 4096) text) kind.ArgumentConflict kind.ValueValidation e in
     (number_taken 4096 text taken.1, taken.0)
-number_is_new Rows text rows e =
+text_is_new Rows text rows e =
     let taken = use_passes (has_row (codes "height") rows) (is_signed_in (pos 1) (pos 4096) text) kind.ArgumentConflict kind.ValueValidation e in
     (number_taken 4096 text taken.1, taken.0)
-number_is_new Bytes text rows e =
+text_is_new Profiles text rows e = (tt, (use_passes (has_row (codes "terminal") rows) true kind.ArgumentConflict kind.ValueValidation e).0)
+text_is_new Bytes text rows e =
     let taken = use_passes (has_row (codes "every") rows) (is_signed_in (pos 1) (pos 4294967295) text) kind.ArgumentConflict kind.ValueValidation e in
     (number_taken 4294967295 text taken.1, taken.0)
 
--- `--name` and its number
-opens : (k : Numbered) (rows : List Row) (pending : Option (Text × List Text)) (rest : List Text) → Passes (between rows pending) ((codes "--" ++ name_for k) ∷ rest)
-    → (settling rows pending ≡ []) × Passes (awaiting k (rows_at rows pending)) rest
+-- `--name` and its text
+opening : (k : Valued) (rows : List Row) (pending : Option (Text × List Text)) → walked line.rules [] (between rows pending) (codes "--" ++ name_for k) ≡ awaiting k (rows_at rows pending)
 unfolding command_line walked
-opens Columns rows pending rest p =
-    let first = first_passes (between rows pending) (codes "--width") rest p in
-    (word_passes idle (held rows pending) (codes "--width") first.0, first.1)
-opens Rows rows pending rest p =
-    let first = first_passes (between rows pending) (codes "--height") rest p in
-    (word_passes idle (held rows pending) (codes "--height") first.0, first.1)
-opens Bytes rows pending rest p =
-    let first = first_passes (between rows pending) (codes "--every") rest p in
-    (word_passes idle (held rows pending) (codes "--every") first.0, first.1)
+opening Columns rows pending = refl
+opening Rows rows pending = refl
+opening Profiles rows pending = refl
+opening Bytes rows pending = refl
 
-give_separate : (k : Numbered) (text : Text) → Give (with_number k text) ((codes "--" ++ name_for k) ∷ text ∷ [])
+opening_fault : (k : Valued) (rows : List Row) (pending : Option (Text × List Text)) → word_fault line [] false idle (codes "--" ++ name_for k) (held rows pending) ≡ settling rows pending
+unfolding command_line
+opening_fault Columns rows pending = refl
+opening_fault Rows rows pending = refl
+opening_fault Profiles rows pending = refl
+opening_fault Bytes rows pending = refl
+
+opens : (k : Valued) (rows : List Row) (pending : Option (Text × List Text)) (rest : List Text) → Passes (between rows pending) ((codes "--" ++ name_for k) ∷ rest)
+    → (settling rows pending ≡ []) × Passes (awaiting k (rows_at rows pending)) rest
+opens k rows pending rest p =
+    let word = codes "--" ++ name_for k in
+    let first = first_passes (between rows pending) word rest p in
+    (sym (opening_fault k rows pending) ∙ word_passes idle (held rows pending) word first.0, subst (λ w. Passes w rest) (opening k rows pending) first.1)
+
+give_separate : (k : Valued) (text : Text) → Give (with_text k text) ((codes "--" ++ name_for k) ∷ text ∷ [])
 give_separate Columns text = inl refl
 give_separate Rows text = inl refl
+give_separate Profiles text = inl refl
 give_separate Bytes text = inl refl
 
-number_separate : (k : Numbered) (rest : List Text) (rows : List Row) (pending : Option (Text × List Text)) → More rest
+text_separate : (k : Valued) (rest : List Text) (rows : List Row) (pending : Option (Text × List Text)) → More rest
     → Passes (between rows pending) ((codes "--" ++ name_for k) ∷ rest) → Given rows pending ((codes "--" ++ name_for k) ∷ rest)
-number_separate k [] rows pending more p = absurd (none_yet k (rows_at rows pending) (opens k rows pending [] p).1.settles)
-number_separate k (text ∷ rest) rows pending more p =
+text_separate k [] rows pending more p = absurd (none_yet k (rows_at rows pending) (opens k rows pending [] p).1.settles)
+text_separate k (text ∷ rest) rows pending more p =
     let before = rows_at rows pending in
     let open_k = opens k rows pending (text ∷ rest) p in
-    let next = more rest before (Some (name_for k, text ∷ [])) (omega arith) (value_passes k before text rest open_k.1) in
-    let taken = number_is_new k text before next.0 in
-    let row = (number_settles k text before taken.0 taken.1).1 in (
+    let word = value_passes k before text rest open_k.1 in
+    let next = more rest before (Some (name_for k, text ∷ [])) (omega arith) word.passes in
+    let taken = text_is_new k text before next.0 in
+    let leads = ap (λ w. walked line.rules [] w text) (opening k rows pending) ∙ word.walk in (
       open_k.0,
-      given_more before (with_number k text) ((codes "--" ++ name_for k) ∷ text ∷ []) rest (give_separate k text) taken.0 taken.1
-          (subst (λ rs. GivenAfter rs rest) row next.1),
+      given_more (between rows pending) (between before (Some (name_for k, text ∷ []))) before (with_text k text) ((codes "--" ++ name_for k) ∷ text ∷ []) rest
+          leads (give_separate k text) taken.0 taken.1
+          (subst (λ rs. GivenAfter (between before (Some (name_for k, text ∷ []))) rs rest) (text_row k text before taken.1) next.1),
     )
 
 -- `--name=text`
-joined_passes : (k : Numbered) (text : Text) (rows : List Row) (pending : Option (Text × List Text)) → word_fault line [] false idle (joined k text) (held rows pending) ≡ []
+joined_passes : (k : Valued) (text : Text) (rows : List Row) (pending : Option (Text × List Text)) → word_fault line [] false idle (joined k text) (held rows pending) ≡ []
     → (settling rows pending ≡ []) × (settling (rows_at rows pending) (Some (name_for k, text ∷ [])) ≡ [])
 unfolding command_line
 joined_passes Columns text rows pending e = or_else_nil (settling rows pending) (settling (rows_at rows pending) (Some (codes "width", text ∷ []))) e
 joined_passes Rows text rows pending e = or_else_nil (settling rows pending) (settling (rows_at rows pending) (Some (codes "height", text ∷ []))) e
+joined_passes Profiles text rows pending e = or_else_nil (settling rows pending) (settling (rows_at rows pending) (Some (codes "terminal", text ∷ []))) e
 joined_passes Bytes text rows pending e = or_else_nil (settling rows pending) (settling (rows_at rows pending) (Some (codes "every", text ∷ []))) e
 
-give_joined : (k : Numbered) (text : Text) → Give (with_number k text) (joined k text ∷ [])
+give_joined : (k : Valued) (text : Text) → Give (with_text k text) (joined k text ∷ [])
 give_joined Columns text = inr refl
 give_joined Rows text = inr refl
+give_joined Profiles text = inr refl
 give_joined Bytes text = inr refl
 
-number_joined : (k : Numbered) (text : Text) (rest : List Text) (rows : List Row) (pending : Option (Text × List Text)) → More rest
+text_joined : (k : Valued) (text : Text) (rest : List Text) (rows : List Row) (pending : Option (Text × List Text)) → More rest
     → Passes (between rows pending) (joined k text ∷ rest) → Given rows pending (joined k text ∷ rest)
-number_joined k text rest rows pending more p =
+text_joined k text rest rows pending more p =
     let before = rows_at rows pending in
     let first = first_passes (between rows pending) (joined k text) rest p in
     let parts = joined_passes k text rows pending (word_passes idle (held rows pending) (joined k text) first.0) in
-    let taken = number_is_new k text before parts.1 in
+    let taken = text_is_new k text before parts.1 in
     let passes = subst (λ w. Passes w rest) (joined_walk k text rows pending taken.1) first.1 in
-    let next = more rest (before ++ row_for (with_number k text) ∷ []) None (omega arith) passes in
-    (parts.0, given_more before (with_number k text) (joined k text ∷ []) rest (give_joined k text) taken.0 taken.1 next.1)
+    let next = more rest (before ++ row_for (with_text k text) ∷ []) None (omega arith) passes in
+    let after = between (before ++ row_for (with_text k text) ∷ []) None in (
+      parts.0,
+      given_more (between rows pending) after before (with_text k text) (joined k text ∷ []) rest
+          (joined_walk k text rows pending taken.1) (give_joined k text) taken.0 taken.1 next.1,
+    )
 
 -- `--show`
 show_passes : (rows : List Row) (pending : Option (Text × List Text)) → word_fault line [] false idle (codes "--show") (held rows pending) ≡ []
@@ -330,7 +374,8 @@ show_alone rest rows pending more p =
     let parts = show_passes rows pending (word_passes idle (held rows pending) (codes "--show") first.0) in
     let passes = subst (λ w. Passes w rest) (show_walk rows pending parts.1) first.1 in
     let next = more rest (before ++ row_for Show ∷ []) None (omega arith) passes in
-    (parts.0, given_more before Show (codes "--show" ∷ []) rest refl tt parts.1 next.1)
+    let after = between (before ++ row_for Show ∷ []) None in
+    (parts.0, given_more (between rows pending) after before Show (codes "--show" ∷ []) rest (show_walk rows pending parts.1) refl tt parts.1 next.1)
 
 -- ---- options that aren't the program's, or are requests
 
@@ -361,12 +406,12 @@ Passing rows pending rest word = Passes (between rows pending) (word ∷ rest)
 abbrev GivenBy : List Row → Option (Text × List Text) → List Text → Text → Type 0
 GivenBy rows pending rest word = Given rows pending (word ∷ rest)
 
-number_given : (k : Numbered) (text : Option Text) (rest : List Text) (rows : List Row) (pending : Option (Text × List Text)) → More rest
+valued_given : (k : Valued) (text : Option Text) (rest : List Text) (rows : List Row) (pending : Option (Text × List Text)) → More rest
     → Passing rows pending rest (codes "--" ++ (name_for k ++ after_name text)) → GivenBy rows pending rest (codes "--" ++ (name_for k ++ after_name text))
-number_given k None rest rows pending more p =
+valued_given k None rest rows pending more p =
     let same : codes "--" ++ (name_for k ++ []) ≡ codes "--" ++ name_for k = ap (λ name. codes "--" ++ name) (append-nil (name_for k)) in
-    subst (GivenBy rows pending rest) (sym same) (number_separate k rest rows pending more (subst (Passing rows pending rest) same p))
-number_given k (Some text) rest rows pending more p = number_joined k text rest rows pending more p
+    subst (GivenBy rows pending rest) (sym same) (text_separate k rest rows pending more (subst (Passing rows pending rest) same p))
+valued_given k (Some text) rest rows pending more p = text_joined k text rest rows pending more p
 
 show_word_given : (text : Option Text) (rest : List Text) (rows : List Row) (pending : Option (Text × List Text)) → More rest
     → Passing rows pending rest (codes "--" ++ (codes "show" ++ after_name text)) → GivenBy rows pending rest (codes "--" ++ (codes "show" ++ after_name text))
@@ -378,8 +423,8 @@ module _ (name : Text) (text : Option Text) (rest : List Text) (rows : List Row)
   spelled_with known = codes "--" ++ (known ++ after_name text)
 
   named_given : Named name → (arg_by_long line.rules name ≡ None → ⊥) → Passing rows pending rest (spelled_with name) → GivenBy rows pending rest (spelled_with name)
-  named_given (number k is) known p =
-      subst (λ n. GivenBy rows pending rest (spelled_with n)) (sym is) (number_given k text rest rows pending more (subst (λ n. Passing rows pending rest (spelled_with n)) is p))
+  named_given (valued k is) known p =
+      subst (λ n. GivenBy rows pending rest (spelled_with n)) (sym is) (valued_given k text rest rows pending more (subst (λ n. Passing rows pending rest (spelled_with n)) is p))
   named_given (show is) known p =
       subst (λ n. GivenBy rows pending rest (spelled_with n)) (sym is) (show_word_given text rest rows pending more (subst (λ n. Passing rows pending rest (spelled_with n)) is p))
   named_given (help is) known p =
@@ -408,14 +453,12 @@ word_given word rest rows pending more p = by_lookup (lookup word) (first_passes
         absurd (some_fault kind.UnknownArgument [] (sym (plain_refused rows pending word not_dashes no_long no_short) ∙ e))
 
 words_given : (n : ℕ) (words : List Text) (rows : List Row) (pending : Option (Text × List Text)) → length words ≤ n → Passes (between rows pending) words → Given rows pending words
-words_given n [] rows pending small p = (p.settles, nothing_given (rows_at rows pending) [] (inl refl))
+words_given n [] rows pending small p = (p.settles, nothing_given (between rows pending) (rows_at rows pending) [] (inl refl) refl)
 words_given zero (word ∷ rest) rows pending small p = absurd (omega (arith, small))
 words_given (suc n) (word ∷ rest) rows pending small p =
     word_given word rest rows pending (λ fewer remaining last less passes. words_given n fewer remaining last (omega (arith, small, less)) passes) p
 
 -- words that are walked over without a fault give options
 pub walk_gives : (words : List Text) → walk_fault line [] (between [] None) words ≡ [] → settle_fault line.rules false (walked_over (between [] None) words).held ≡ []
-    → IsCommandLine words
-walk_gives words walk settles =
-    let given = (words_given (length words) words [] None (omega arith) (record { walk = walk; settles = settles })).1 in
-    record { settings = given.settings; given = given.give; in_range = given.range; once = given.distinct }
+    → GivenAfter (between [] None) [] words
+walk_gives words walk settles = (words_given (length words) words [] None (omega arith) (record { walk = walk; settles = settles })).1

@@ -1,14 +1,19 @@
--- Words that give options: they have no fault, and the parser reads their numbers.
-use Rattle.std.proofs.Common.{◌≡◌, ◌∙◌, ◌||◌, List, [], ◌∷◌, Bool, true, false, cond, Option, None, is_some, refl, ap, arith, codes, map}
-use Rattle.std.specs.Prelude.{drop, flat_map, fold, option_and_then}
-use Rattle.std.specs.List.{AllByRecursion}
+-- Words that give options: they have no fault, and the parser reads their texts.
+use Rattle.std.proofs.Common.{◌≡◌, ◌∙◌, ◌||◌, List, [], ◌∷◌, Bool, true, false, cond, Option, Some, None, inl, inr, is_some, refl, ap, arith, sym, true≢false, codes, map}
+use Rattle.std.specs.Prelude.{drop, flat_map, fold, option_and_then, slice_get}
+use Rattle.std.specs.List.{AllByRecursion, IsDistinct}
+use Rattle.std.specs.Str.{bytes_eq}
+use Rattle.std.proofs.lemmas.Slice.Eq.{bytes_eq-Decides}
 use Rattle.clap.specs.Faults.{check_fault, defaults_fault, entered_fault, given_default_fault, settle_fault, walk_fault}
 use Rattle.clap.specs.Kinds.{Kinds, or_else}
-use Rattle.clap.specs.Simple.{App, built, entered}
-use Rattle.clap.specs.Walk.{Held, Row, Rule, Text, finished, has_row, is_empty, nothing_held, one_of, row_text, settled, walk, with_default}
-use Rattle.relay.specs.CommandLine.{command_line, faults_in, is_true, number_or, text_in, width_in, height_in, every_in, show_in}
-use Rattle.relay.specs.Settings.{Setting, Width, Height, Every, Show, IsCommandLine, IsInRange, width_given, height_given, every_given, show_given}
-use Rattle.relay.proofs.SettingFaults.{or_else_nil, walk_gives}
+use Rattle.clap.specs.Simple.{App, built, entered, matches_of}
+use Rattle.clap.specs.Words.{fault_of}
+use Rattle.terminal_steps.specs.declared.profile.Profile.{Profile}
+use Rattle.terminal_steps.specs.declared.profile.Profile.TheVariants.{Plain, Xterm}
+use Rattle.clap.specs.Walk.{Held, Row, Rule, Text, finished, has_row, is_empty, nothing_held, row_text, settled, walk, with_default}
+use Rattle.relay.specs.CommandLine.{command_line, faults_in, is_true, name_faults, number_or, profile_named, terminal_in, text_in, width_in, height_in, every_in, show_in}
+use Rattle.relay.specs.Settings.{Setting, Width, Height, Terminal, Every, Show, IsCommandLine, IsInRange, IsProfile, name_of, width_given, height_given, profile_given, every_given, show_given}
+use Rattle.relay.proofs.SettingFaults.{GivenAfter, Takes, or_else_nil, rows_found, some_fault, walk_gives}
 use Rattle.relay.proofs.SettingNumbers.{plain_number}
 use Rattle.relay.proofs.SettingRows.{default_rows_of, defaults_found, find_row, or_row, row_for}
 use Rattle.relay.proofs.SettingWalk.{between, held, line, walk_ends}
@@ -32,7 +37,7 @@ defaults_pass (a ∷ rules) rows passes =
 -- no default is refused
 no_default_fault : (rows : List Row) → defaults_fault rows line.rules ≡ []
 unfolding command_line
-no_default_fault rows = defaults_pass line.rules rows (refl, (refl, (refl, (refl, (refl, (refl, tt))))))
+no_default_fault rows = defaults_pass line.rules rows (refl, (refl, (refl, (refl, (refl, (refl, (refl, tt)))))))
 
 -- the faults of a walk, or else those found after it
 abbrev faults_after : Held → Option (Text × List Text) → Kinds → Kinds
@@ -41,16 +46,15 @@ faults_after h stopped kinds =
     or_else kinds (or_else (entered_fault app stopped) (or_else (settle_fault line.rules line.args_override_self h)
     (or_else (defaults_fault (settled line.rules h).rows line.rules) (check_fault line (finished line.rules h) (is_some (entered app stopped))))))
 
-pub no_faults : (words : List Text) → IsCommandLine (drop 1 words) → faults_in words ≡ []
-unfolding command_line faults_in
-no_faults words given =
+parsed : (words : List Text) → IsCommandLine (drop 1 words) → fault_of command_line words ≡ []
+unfolding command_line
+parsed words given =
     let end = walk_ends given.settings (drop 1 words) given.in_range given.once given.given in
     (λ i. faults_after (end.held_is i) (end.stopped_is i) (end.fault i)) ∙ rw (end.settles, no_default_fault (settled line.rules (held end.rows end.pending)).rows) refl
 
--- words without a fault are a command line that can be run
-pub options_given : (words : List Text) → faults_in words ≡ [] → IsCommandLine (drop 1 words)
-unfolding command_line faults_in
-options_given words none =
+found : (words : List Text) → fault_of command_line words ≡ [] → GivenAfter (between [] None) [] (drop 1 words)
+unfolding command_line
+found words none =
     let after = drop 1 words in
     let app : App = built command_line in
     let h : Held = (walk line.rules [] nothing_held after).held in
@@ -62,16 +66,28 @@ options_given words none =
 
 -- ---- texts
 
+-- the row of an option that is given, or of its default
+abbrev row_given : Text → List Setting → Option Row
+row_given name settings = or_row (find_row name (map row_for settings)) (find_row name (flat_map default_rows_of line.rules))
+
+row_is : (name : Text) (words : List Text) (settings : List Setting) → rows_found (between [] None) (drop 1 words) ≡ map row_for settings
+    → find_row name (matches_of command_line words) ≡ row_given name settings
+unfolding command_line
+row_is name words settings found =
+    ap (λ rows. find_row name (fold with_default rows line.rules)) found ∙ defaults_found name line.rules (map row_for settings)
+
+given_rows : (words : List Text) (given : IsCommandLine (drop 1 words)) → rows_found (between [] None) (drop 1 words) ≡ map row_for given.settings
+given_rows words given =
+    let end = walk_ends given.settings (drop 1 words) given.in_range given.once given.given in
+    ap (λ h. (settled line.rules h).rows) end.held_is ∙ end.rows_are
+
 -- the text of an option that is given, or its default
 abbrev text_given : Text → List Setting → Option Text
-text_given name settings = option_and_then row_text (or_row (find_row name (map row_for settings)) (find_row name (flat_map default_rows_of line.rules)))
+text_given name settings = option_and_then row_text (row_given name settings)
 
 text_is : (name : Text) (words : List Text) (given : IsCommandLine (drop 1 words)) → text_in words name ≡ text_given name given.settings
-unfolding command_line text_in
-text_is name words given =
-    let end = walk_ends given.settings (drop 1 words) given.in_range given.once given.given in
-    ap (λ h. one_of name (finished line.rules h)) end.held_is ∙ ap (λ rows. one_of name (fold with_default rows line.rules)) end.rows_are
-    ∙ ap (option_and_then row_text) (defaults_found name line.rules (map row_for given.settings))
+unfolding text_in
+text_is name words given = ap (option_and_then row_text) (row_is name words given.settings (given_rows words given))
 
 width_read : (settings : List Setting) → AllByRecursion IsInRange settings → number_or 80 4096 (text_given (codes "width") settings) ≡ width_given settings
 unfolding command_line number_or
@@ -80,6 +96,7 @@ width_read (Width text ∷ remaining) range =
     let plain = plain_number 4096 text (omega arith) range.0 in
     rw (plain.same, plain.unsigned) refl
 width_read (Height text ∷ remaining) range = width_read remaining range.1
+width_read (Terminal text ∷ remaining) range = width_read remaining range.1
 width_read (Every text ∷ remaining) range = width_read remaining range.1
 width_read (Show ∷ remaining) range = width_read remaining range.1
 
@@ -90,6 +107,7 @@ height_read (Height text ∷ remaining) range =
     let plain = plain_number 4096 text (omega arith) range.0 in
     rw (plain.same, plain.unsigned) refl
 height_read (Width text ∷ remaining) range = height_read remaining range.1
+height_read (Terminal text ∷ remaining) range = height_read remaining range.1
 height_read (Every text ∷ remaining) range = height_read remaining range.1
 height_read (Show ∷ remaining) range = height_read remaining range.1
 
@@ -101,6 +119,7 @@ every_read (Every text ∷ remaining) range =
     rw (plain.same, plain.unsigned) refl
 every_read (Width text ∷ remaining) range = every_read remaining range.1
 every_read (Height text ∷ remaining) range = every_read remaining range.1
+every_read (Terminal text ∷ remaining) range = every_read remaining range.1
 every_read (Show ∷ remaining) range = every_read remaining range.1
 
 show_read : (settings : List Setting) → is_true (text_given (codes "show") settings) ≡ show_given settings
@@ -109,6 +128,7 @@ show_read [] = refl
 show_read (Show ∷ remaining) = refl
 show_read (Width text ∷ remaining) = show_read remaining
 show_read (Height text ∷ remaining) = show_read remaining
+show_read (Terminal text ∷ remaining) = show_read remaining
 show_read (Every text ∷ remaining) = show_read remaining
 
 pub width_is : (words : List Text) (given : IsCommandLine (drop 1 words)) → width_in words ≡ width_given given.settings
@@ -122,3 +142,78 @@ every_is words given = ap (number_or 4096 4294967295) (text_is (codes "every") w
 
 pub show_is : (words : List Text) (given : IsCommandLine (drop 1 words)) → show_in words ≡ show_given given.settings
 show_is words given = ap is_true (text_is (codes "show") words given) ∙ show_read given.settings
+
+-- ---- the profile
+
+-- the profile of the name that is given, or of the default
+abbrev named_given : List Setting → Option Profile
+named_given settings = option_and_then profile_named (option_and_then (λ (r : Row). slice_get r.values 0) (row_given (codes "terminal") settings))
+
+named_is : (words : List Text) (settings : List Setting) → rows_found (between [] None) (drop 1 words) ≡ map row_for settings → terminal_in words ≡ named_given settings
+unfolding terminal_in
+named_is words settings found =
+    ap (λ row. option_and_then profile_named (option_and_then (λ (r : Row). slice_get r.values 0) row)) (row_is (codes "terminal") words settings found)
+
+name_read : (text : Text) → IsProfile text → profile_named text ≡ Some (profile_given (Terminal text ∷ []))
+unfolding profile_named
+name_read text (inl is) = rw is refl
+name_read text (inr is) = rw is refl
+
+named_read : (settings : List Setting) → AllByRecursion IsInRange settings → named_given settings ≡ Some (profile_given settings)
+unfolding command_line
+named_read [] range = name_read (codes "plain") (inl refl)
+named_read (Terminal text ∷ remaining) range = name_read text range.0
+named_read (Width text ∷ remaining) range = named_read remaining range.1
+named_read (Height text ∷ remaining) range = named_read remaining range.1
+named_read (Every text ∷ remaining) range = named_read remaining range.1
+named_read (Show ∷ remaining) range = named_read remaining range.1
+
+pub profile_is : (words : List Text) (given : IsCommandLine (drop 1 words)) → terminal_in words ≡ Some (profile_given given.settings)
+profile_is words given = named_is words given.settings (given_rows words given) ∙ named_read given.settings given.in_range
+
+-- a name that is read is that of a profile
+read_name : (text : Text) → name_faults (profile_named text) ≡ [] → IsProfile text
+unfolding profile_named
+read_name text none = by_tests (bytes_eq text (codes "plain")) (bytes_eq text (codes "xterm")) refl refl none
+  where
+    by_tests : (p x : Bool) → bytes_eq text (codes "plain") ≡ p → bytes_eq text (codes "xterm") ≡ x
+        → name_faults (cond p (Some Plain) (cond x (Some Xterm) None)) ≡ [] → IsProfile text
+    by_tests true x is other none = inl ((bytes_eq-Decides text (codes "plain")).0 is)
+    by_tests false true other is none = inr ((bytes_eq-Decides text (codes "xterm")).0 is)
+    by_tests false false other another none = absurd (some_fault _ _ none)
+
+abbrev NotNamed : Text → Type 0
+NotNamed name = bytes_eq (codes "terminal") name ≡ false
+
+others_in_range : (settings : List Setting) → AllByRecursion Takes settings → AllByRecursion NotNamed (map name_of settings) → AllByRecursion IsInRange settings
+others_in_range [] taken other = tt
+others_in_range (Terminal text ∷ remaining) taken other = absurd (true≢false other.0)
+others_in_range (Width text ∷ remaining) taken other = (taken.0, others_in_range remaining taken.1 other.1)
+others_in_range (Height text ∷ remaining) taken other = (taken.0, others_in_range remaining taken.1 other.1)
+others_in_range (Every text ∷ remaining) taken other = (taken.0, others_in_range remaining taken.1 other.1)
+others_in_range (Show ∷ remaining) taken other = (tt, others_in_range remaining taken.1 other.1)
+
+all_in_range : (settings : List Setting) → AllByRecursion Takes settings → IsDistinct bytes_eq (map name_of settings) → name_faults (named_given settings) ≡ []
+    → AllByRecursion IsInRange settings
+unfolding IsDistinct
+all_in_range [] taken once none = tt
+all_in_range (Terminal text ∷ remaining) taken once none = (read_name text none, others_in_range remaining taken.1 once.0)
+all_in_range (Width text ∷ remaining) taken once none = (taken.0, all_in_range remaining taken.1 once.1 none)
+all_in_range (Height text ∷ remaining) taken once none = (taken.0, all_in_range remaining taken.1 once.1 none)
+all_in_range (Every text ∷ remaining) taken once none = (taken.0, all_in_range remaining taken.1 once.1 none)
+all_in_range (Show ∷ remaining) taken once none = (tt, all_in_range remaining taken.1 once.1 none)
+
+-- ---- the whole
+
+pub no_faults : (words : List Text) → IsCommandLine (drop 1 words) → faults_in words ≡ []
+unfolding faults_in
+no_faults words given = rw (parsed words given, profile_is words given) refl
+
+-- words without a fault are a command line that can be run
+pub options_given : (words : List Text) → faults_in words ≡ [] → IsCommandLine (drop 1 words)
+unfolding faults_in
+options_given words none =
+    let parts = or_else_nil (fault_of command_line words) (name_faults (terminal_in words)) none in
+    let given = found words parts.0 in
+    let named = ap name_faults (sym (named_is words given.settings given.found)) ∙ parts.1 in
+    record { settings = given.settings; given = given.give; in_range = all_in_range given.settings given.taken given.distinct named; once = given.distinct }

@@ -1,5 +1,5 @@
--- How the parser reads the text of a number in its range.
-use Rattle.std.proofs.Common.{◌≡◌, ◌∙◌, ◌<◌, ◌==◌, ◌^◌, ℕ, Bool, true, false, [], ◌∷◌, None, refl, arith, sym, true≢false}
+-- How the parser reads the text of a number in its range, and the name of a profile.
+use Rattle.std.proofs.Common.{◌≡◌, ◌∙◌, ◌<◌, ◌==◌, ◌^◌, ℕ, Bool, true, false, [], ◌∷◌, None, inl, inr, refl, arith, subst, sym, true≢false}
 use Rattle.std.specs.Prelude.{length, nat_le, nat_lt, neg_ℤ, int_le, drop, pos, zero, suc, codes}
 use Rattle.std.specs.Char.{digit_value}
 use Rattle.std.specs.List.{list_all}
@@ -12,7 +12,7 @@ use Rattle.clap.specs.Words.{Text}
 use Rattle.clap.specs.declared.builder.value_parser.ValueParser.TheVariants as value_parser
 use Rattle.clap.proofs.ValueTestLemmas.{accepts-Accepts}
 use Rattle.clap.proofs.WalkLemmas.{both}
-use Rattle.relay.specs.Settings.{IsNumberTo, number_of}
+use Rattle.relay.specs.Settings.{IsNumberTo, IsProfile, number_of}
 
 digits_pass : (digits : Text) → AllDigits 10 digits → list_all (λ d. nat_lt (digit_value d) 10) digits ≡ true
 digits_pass [] h = refl
@@ -94,3 +94,13 @@ number_taken most text taken = by_test (starts_with_minus text) refl (accepts-Ac
         let low : nat_le 1 (number_of text) ≡ true = rw e at (order_of most text taken).0 in
         let high : nat_le (number_of text) most ≡ true = rw e at (order_of most text taken).1 in
         (here, leb-true 1 (number_of text) low, leb-true (number_of text) most high)
+
+-- a word that has the form of no option
+pub record IsWord (text : Text) : Type 0 where
+  pub rest : bytes_eq text (codes "--") ≡ false
+  pub long : long_of text ≡ None
+  pub short : short_of text ≡ None
+
+pub profile_word : (text : Text) → IsProfile text → IsWord text
+profile_word text (inl is) = subst IsWord (sym is) (record { rest = refl; long = refl; short = refl })
+profile_word text (inr is) = subst IsWord (sym is) (record { rest = refl; long = refl; short = refl })

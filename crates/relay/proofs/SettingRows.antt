@@ -8,7 +8,7 @@ use Rattle.clap.specs.Walk.{Row, Rule, Text, at_row, default_rows, has_row, more
 use Rattle.clap.specs.declared.parser.matches.ValueSource.TheVariants.{DefaultValue, CommandLine}
 use Rattle.clap.specs.declared.builder.value_parser.Reading.{Reading}
 use Rattle.clap.specs.declared.builder.value_parser.Reading.TheVariants as reading
-use Rattle.relay.specs.Settings.{Setting, Width, Height, Every, Show}
+use Rattle.relay.specs.Settings.{Setting, Width, Height, Terminal, Every, Show}
 
 -- the row of an option that was given
 abbrev pub row_with : Text → Reading → Text → Row
@@ -17,6 +17,7 @@ row_with id how text = record { id = id; values = text ∷ []; count = None; sou
 abbrev pub row_for : Setting → Row
 row_for (Width text) = row_with (codes "width") reading.WithoutMinus text
 row_for (Height text) = row_with (codes "height") reading.WithoutMinus text
+row_for (Terminal text) = row_with (codes "terminal") reading.AsWritten text
 row_for (Every text) = row_with (codes "every") reading.WithoutMinus text
 row_for Show = row_with (codes "show") reading.AsWritten (codes "true")
 

@@ -11,24 +11,27 @@ use Rattle.clap.specs.Simple.{Shape, built}
 use Rattle.clap.specs.Walk.{Held, Row, Text, Walk, has_row, idle, option, settled_rows, walked}
 use Rattle.clap.specs.declared.builder.value_parser.Reading.TheVariants as reading
 use Rattle.relay.specs.CommandLine.{command_line}
-use Rattle.relay.specs.Settings.{Setting, Width, Height, Every, Show, Give, GiveAll, IsInRange, name_of}
-use Rattle.relay.proofs.SettingNumbers.{plain_number}
+use Rattle.relay.specs.Settings.{Setting, Width, Height, Terminal, Every, Show, Give, GiveAll, IsInRange, name_of}
+use Rattle.relay.proofs.SettingNumbers.{plain_number, profile_word}
 use Rattle.relay.proofs.SettingRows.{has_more, row_for, used_once}
 
--- the options that take a number
-pub data Numbered : Type 0 where
-  Columns : Numbered
-  Rows : Numbered
-  Bytes : Numbered
+-- the options that take a text
+pub data Valued : Type 0 where
+  Columns : Valued
+  Rows : Valued
+  Profiles : Valued
+  Bytes : Valued
 
-abbrev pub with_number : Numbered → Text → Setting
-with_number Columns text = Width text
-with_number Rows text = Height text
-with_number Bytes text = Every text
+abbrev pub with_text : Valued → Text → Setting
+with_text Columns text = Width text
+with_text Rows text = Height text
+with_text Profiles text = Terminal text
+with_text Bytes text = Every text
 
-abbrev pub name_for : Numbered → Text
+abbrev pub name_for : Valued → Text
 name_for Columns = codes "width"
 name_for Rows = codes "height"
+name_for Profiles = codes "terminal"
 name_for Bytes = codes "every"
 
 -- the command line as the parser completes it
@@ -42,8 +45,8 @@ held rows pending = record { rows = rows; pending = pending; skip = 0 }
 abbrev pub between : List Row → Option (Text × List Text) → Walk
 between rows pending = record { held = held rows pending; waiting = idle; position = 1; is_trailing = false; stopped = None }
 
--- after an option whose number is the next word
-abbrev pub awaiting : Numbered → List Row → Walk
+-- after an option whose text is the next word
+abbrev pub awaiting : Valued → List Row → Walk
 awaiting k rows = record { held = held rows (Some (name_for k, [])); waiting = option (name_for k); position = 1; is_trailing = false; stopped = None }
 
 -- the rows, with the row of the pending option
@@ -72,45 +75,58 @@ pub record LeadsTo (from : Walk) (words : List Text) (found : List Row) : Type 0
 
 -- ---- one option
 
--- a number that is pending
-pub number_settles : (k : Numbered) (text : Text) (rows : List Row) → IsInRange (with_number k text) → IsNew rows (with_number k text)
-    → (settling rows (Some (name_for k, text ∷ [])) ≡ []) × (rows_at rows (Some (name_for k, text ∷ [])) ≡ rows ++ row_for (with_number k text) ∷ [])
+-- a text that is pending
+text_settles : (k : Valued) (text : Text) (rows : List Row) → IsInRange (with_text k text) → IsNew rows (with_text k text)
+    → settling rows (Some (name_for k, text ∷ [])) ≡ []
 unfolding command_line
-number_settles Columns text rows range new = (rw (new, (plain_number 4096 text (omega arith) range).signed) refl, used_once (codes "width") reading.WithoutMinus text rows new)
-number_settles Rows text rows range new = (rw (new, (plain_number 4096 text (omega arith) range).signed) refl, used_once (codes "height") reading.WithoutMinus text rows new)
-number_settles Bytes text rows range new = (rw (new, (plain_number 4294967295 text (omega arith) range).signed) refl, used_once (codes "every") reading.WithoutMinus text rows new)
+text_settles Columns text rows range new = rw (new, (plain_number 4096 text (omega arith) range).signed) refl
+text_settles Rows text rows range new = rw (new, (plain_number 4096 text (omega arith) range).signed) refl
+text_settles Profiles text rows range new = rw new refl
+text_settles Bytes text rows range new = rw (new, (plain_number 4294967295 text (omega arith) range).signed) refl
+
+pub text_row : (k : Valued) (text : Text) (rows : List Row) → IsNew rows (with_text k text)
+    → rows_at rows (Some (name_for k, text ∷ [])) ≡ rows ++ row_for (with_text k text) ∷ []
+unfolding command_line
+text_row Columns text rows new = used_once (codes "width") reading.WithoutMinus text rows new
+text_row Rows text rows new = used_once (codes "height") reading.WithoutMinus text rows new
+text_row Profiles text rows new = used_once (codes "terminal") reading.AsWritten text rows new
+text_row Bytes text rows new = used_once (codes "every") reading.WithoutMinus text rows new
 
 -- `--name text`
-separate_walk : (k : Numbered) (text : Text) (rows : List Row) (pending : Option (Text × List Text)) → IsInRange (with_number k text)
+separate_walk : (k : Valued) (text : Text) (rows : List Row) (pending : Option (Text × List Text)) → IsInRange (with_text k text)
     → walked_over (between rows pending) ((codes "--" ++ name_for k) ∷ text ∷ []) ≡ between (rows_at rows pending) (Some (name_for k, text ∷ []))
 unfolding command_line walked
 separate_walk Columns text rows pending range = let plain = plain_number 4096 text (omega arith) range in rw (plain.rest, plain.long, plain.short) refl
 separate_walk Rows text rows pending range = let plain = plain_number 4096 text (omega arith) range in rw (plain.rest, plain.long, plain.short) refl
+separate_walk Profiles text rows pending range = let word = profile_word text range in rw (word.rest, word.long, word.short) refl
 separate_walk Bytes text rows pending range = let plain = plain_number 4294967295 text (omega arith) range in rw (plain.rest, plain.long, plain.short) refl
 
-separate_fault : (k : Numbered) (text : Text) (rows : List Row) (pending : Option (Text × List Text)) → settling rows pending ≡ [] → IsInRange (with_number k text)
+separate_fault : (k : Valued) (text : Text) (rows : List Row) (pending : Option (Text × List Text)) → settling rows pending ≡ [] → IsInRange (with_text k text)
     → walk_fault line [] (between rows pending) ((codes "--" ++ name_for k) ∷ text ∷ []) ≡ []
 unfolding command_line walked walk_fault
 separate_fault Columns text rows pending settles range = let plain = plain_number 4096 text (omega arith) range in rw (settles, plain.rest, plain.long, plain.short) refl
 separate_fault Rows text rows pending settles range = let plain = plain_number 4096 text (omega arith) range in rw (settles, plain.rest, plain.long, plain.short) refl
+separate_fault Profiles text rows pending settles range = let word = profile_word text range in rw (settles, word.rest, word.long, word.short) refl
 separate_fault Bytes text rows pending settles range = let plain = plain_number 4294967295 text (omega arith) range in rw (settles, plain.rest, plain.long, plain.short) refl
 
 -- `--name=text`
-abbrev pub joined : Numbered → Text → Text
+abbrev pub joined : Valued → Text → Text
 joined k text = codes "--" ++ (name_for k ++ (codes "=" ++ text))
 
-pub joined_walk : (k : Numbered) (text : Text) (rows : List Row) (pending : Option (Text × List Text)) → IsNew (rows_at rows pending) (with_number k text)
-    → walked line.rules [] (between rows pending) (joined k text) ≡ between (rows_at rows pending ++ row_for (with_number k text) ∷ []) None
+pub joined_walk : (k : Valued) (text : Text) (rows : List Row) (pending : Option (Text × List Text)) → IsNew (rows_at rows pending) (with_text k text)
+    → walked line.rules [] (between rows pending) (joined k text) ≡ between (rows_at rows pending ++ row_for (with_text k text) ∷ []) None
 unfolding command_line walked
 joined_walk Columns text rows pending new = ap (λ rs. between rs None) (used_once (codes "width") reading.WithoutMinus text (rows_at rows pending) new)
 joined_walk Rows text rows pending new = ap (λ rs. between rs None) (used_once (codes "height") reading.WithoutMinus text (rows_at rows pending) new)
+joined_walk Profiles text rows pending new = ap (λ rs. between rs None) (used_once (codes "terminal") reading.AsWritten text (rows_at rows pending) new)
 joined_walk Bytes text rows pending new = ap (λ rs. between rs None) (used_once (codes "every") reading.WithoutMinus text (rows_at rows pending) new)
 
-joined_fault : (k : Numbered) (text : Text) (rows : List Row) (pending : Option (Text × List Text)) → settling rows pending ≡ []
-    → IsInRange (with_number k text) → IsNew (rows_at rows pending) (with_number k text) → turn_fault line [] (between rows pending) (joined k text) ≡ []
+joined_fault : (k : Valued) (text : Text) (rows : List Row) (pending : Option (Text × List Text)) → settling rows pending ≡ []
+    → IsInRange (with_text k text) → IsNew (rows_at rows pending) (with_text k text) → turn_fault line [] (between rows pending) (joined k text) ≡ []
 unfolding command_line
 joined_fault Columns text rows pending settles range new = rw (settles, new, (plain_number 4096 text (omega arith) range).signed) refl
 joined_fault Rows text rows pending settles range new = rw (settles, new, (plain_number 4096 text (omega arith) range).signed) refl
+joined_fault Profiles text rows pending settles range new = rw (settles, new) refl
 joined_fault Bytes text rows pending settles range new = rw (settles, new, (plain_number 4294967295 text (omega arith) range).signed) refl
 
 -- `--show`
@@ -132,22 +148,21 @@ one_fault w word none = ap (λ kinds. or_else kinds []) none
 abbrev Leads : List Row → Option (Text × List Text) → Setting → List Text → Type 0
 Leads rows pending s words = LeadsTo (between rows pending) words (rows_at rows pending ++ row_for s ∷ [])
 
-number_leads : (k : Numbered) (text : Text) (words : List Text) (rows : List Row) (pending : Option (Text × List Text)) → settling rows pending ≡ []
-    → IsInRange (with_number k text) → IsNew (rows_at rows pending) (with_number k text)
-    → (words ≡ (codes "--" ++ name_for k) ∷ text ∷ []) ⊎ (words ≡ joined k text ∷ []) → Leads rows pending (with_number k text) words
-number_leads k text words rows pending settles range new (inl is) =
-    let last = number_settles k text (rows_at rows pending) range new in
-    subst (Leads rows pending (with_number k text)) (sym is) (record {
+text_leads : (k : Valued) (text : Text) (words : List Text) (rows : List Row) (pending : Option (Text × List Text)) → settling rows pending ≡ []
+    → IsInRange (with_text k text) → IsNew (rows_at rows pending) (with_text k text)
+    → (words ≡ (codes "--" ++ name_for k) ∷ text ∷ []) ⊎ (words ≡ joined k text ∷ []) → Leads rows pending (with_text k text) words
+text_leads k text words rows pending settles range new (inl is) =
+    subst (Leads rows pending (with_text k text)) (sym is) (record {
       rows = rows_at rows pending;
       pending = Some (name_for k, text ∷ []);
       walk = separate_walk k text rows pending range;
       fault = separate_fault k text rows pending settles range;
-      settles = last.0;
-      rows_are = last.1;
+      settles = text_settles k text (rows_at rows pending) range new;
+      rows_are = text_row k text (rows_at rows pending) new;
     })
-number_leads k text words rows pending settles range new (inr is) =
-    subst (Leads rows pending (with_number k text)) (sym is) (record {
-      rows = rows_at rows pending ++ row_for (with_number k text) ∷ [];
+text_leads k text words rows pending settles range new (inr is) =
+    subst (Leads rows pending (with_text k text)) (sym is) (record {
+      rows = rows_at rows pending ++ row_for (with_text k text) ∷ [];
       pending = None;
       walk = joined_walk k text rows pending new;
       fault = one_fault (between rows pending) (joined k text) (joined_fault k text rows pending settles range new);
@@ -157,9 +172,10 @@ number_leads k text words rows pending settles range new (inr is) =
 
 option_leads : (s : Setting) (words : List Text) (rows : List Row) (pending : Option (Text × List Text)) → settling rows pending ≡ []
     → IsInRange s → IsNew (rows_at rows pending) s → Give s words → Leads rows pending s words
-option_leads (Width text) words rows pending settles range new give = number_leads Columns text words rows pending settles range new give
-option_leads (Height text) words rows pending settles range new give = number_leads Rows text words rows pending settles range new give
-option_leads (Every text) words rows pending settles range new give = number_leads Bytes text words rows pending settles range new give
+option_leads (Width text) words rows pending settles range new give = text_leads Columns text words rows pending settles range new give
+option_leads (Height text) words rows pending settles range new give = text_leads Rows text words rows pending settles range new give
+option_leads (Terminal text) words rows pending settles range new give = text_leads Profiles text words rows pending settles range new give
+option_leads (Every text) words rows pending settles range new give = text_leads Bytes text words rows pending settles range new give
 option_leads Show words rows pending settles range new is =
     subst (Leads rows pending Show) (sym is) (record {
       rows = rows_at rows pending ++ row_for Show ∷ [];
@@ -235,6 +251,7 @@ ends_later from first rest before found lead end =
 pub row_named : (s : Setting) → (row_for s).id ≡ name_of s
 row_named (Width text) = refl
 row_named (Height text) = refl
+row_named (Terminal text) = refl
 row_named (Every text) = refl
 row_named Show = refl
 

@@ -1,16 +1,21 @@
 -- The command line of the program: its options, and the values that words give them, as the kit's `clap` reads words.
 use Rattle.std.specs.Prelude.{◌≢◌, ℕ, pos, Bool, ◌&&◌, nat_lt, nat_le, true, false, List, [], ◌∷◌, Option, Some, None}
-use Rattle.std.specs.Prelude.{codes, if◌then◌else◌}
+use Rattle.std.specs.Prelude.{◌≡◌, ◌⊎◌, Result, Ok, Err, MatchResult, codes, if◌then◌else◌, option_and_then, unwrap_or}
 use Rattle.std.specs.Str.{bytes_eq}
 use Rattle.std.specs.Str.Parse.{digits_value, without_leading_plus}
 use Rattle.clap.specs.Simple.{on_top}
 use Rattle.clap.specs.ValueTests.{is_unsigned_in}
+use Rattle.clap.specs.Kinds.{or_else}
 use Rattle.clap.specs.Words.{App, IsAmong, Rule, Text, Kinds, new_app, new_rule, with_rule, matches_of, one_of}
-use Rattle.clap.specs.Words.{fault_of}
+use Rattle.clap.specs.Words.{fault_of, first_of, kind_of}
 use Rattle.clap.specs.declared.error.kind.ErrorKind.{ErrorKind}
 use Rattle.clap.specs.declared.error.kind.ErrorKind.TheVariants as kind
 use Rattle.clap.specs.declared.builder.action.ArgAction.TheVariants.{SetTrue}
 use Rattle.clap.specs.declared.builder.value_parser.ValueParser.TheVariants as value_parser
+use Rattle.relay.specs.declared.options.BadWords.{BadWords}
+use Rattle.relay.specs.declared.options.BadWords.TheVariants.{Command, Terminal}
+use Rattle.terminal_steps.specs.declared.profile.Profile.{Profile}
+use Rattle.terminal_steps.specs.declared.profile.Profile.TheVariants.{Plain, Xterm}
 
 -- an option whose value is a number from 1 to `most`
 abbrev pub number_rule : Text → Text → ℕ → Rule
@@ -22,6 +27,11 @@ number_rule name default most =
       parser = Some (value_parser.Signed (pos 1) (pos most));
     }
 
+-- an option whose value is any text
+abbrev pub text_rule : Text → Text → Rule
+text_rule name default =
+    record (new_rule name) { long = Some name; value_names = 1; defaults = default ∷ [] }
+
 -- an option without a value
 abbrev pub flag_rule : Text → Rule
 flag_rule name = record (new_rule name) { long = Some name; action = Some SetTrue }
@@ -30,22 +40,54 @@ flag_rule name = record (new_rule name) { long = Some name; action = Some SetTru
 abbrev pub named : App
 named = on_top (λ shape. record shape { has_version = true }) (new_app (codes "relay"))
 
--- the program with its four options
+-- the program with its five options
 unfoldable pub command_line : App
 command_line =
-    with_rule (with_rule (with_rule (with_rule named
+    with_rule (with_rule (with_rule (with_rule (with_rule named
     (number_rule (codes "width") (codes "80") 4096))
     (number_rule (codes "height") (codes "24") 4096))
+    (text_rule (codes "terminal") (codes "plain")))
     (number_rule (codes "every") (codes "4096") 4294967295))
     (flag_rule (codes "show"))
-
--- the kinds of error that the words may give: none where they are a command line to run
-unfoldable pub faults_in : List Text → Kinds
-faults_in words = fault_of command_line words
 
 -- one of some kinds of error is a mistake, and no request for help or for the version
 abbrev pub HasMistake : Kinds → Type 0
 HasMistake kinds = (k : ErrorKind) × IsAmong k kinds × (k ≢ kind.DisplayHelp) × (k ≢ kind.DisplayVersion)
+
+-- the profile of a name, if it is one
+unfoldable pub profile_named : Text → Option Profile
+profile_named name =
+    if bytes_eq name (codes "plain") then Some Plain else (if bytes_eq name (codes "xterm") then Some Xterm else None)
+
+-- the profile that the words name, or `plain` where they name none; `None` for a name that is no profile's
+unfoldable pub terminal_in : List Text → Option Profile
+terminal_in words = option_and_then profile_named (first_of (codes "terminal") (matches_of command_line words))
+
+abbrev pub name_faults : Option Profile → Kinds
+name_faults None = kind.InvalidValue ∷ []
+name_faults (Some profile) = []
+
+-- the kinds of error that the words may give: none where they are a command line to run
+unfoldable pub faults_in : List Text → Kinds
+faults_in words = or_else (fault_of command_line words) (name_faults (terminal_in words))
+
+-- the kind of the error for which words are refused
+abbrev pub kind_in : BadWords → ErrorKind
+kind_in (Command error) = kind_of error
+kind_in (Terminal name) = kind.InvalidValue
+
+-- the profile that was read; `None` where its name is refused
+abbrev pub profile_read : Result Profile BadWords → Option Profile
+profile_read (Ok profile) = Some profile
+profile_read (Err bad) = None
+
+-- memory ran out, or the words are refused for one of some kinds
+abbrev pub IsRefusedFor : Kinds → BadWords → Type 0
+IsRefusedFor kinds bad = (kind_in bad ≡ kind.OutOfMemory) ⊎ IsAmong (kind_in bad) kinds
+
+-- words are read only where no kind of error comes, and are refused for one of the kinds
+abbrev pub RefusesFor : {T : Type 0} → Kinds → Result T BadWords → Type 0
+RefusesFor kinds result = MatchResult result (λ _. kinds ≡ []) (IsRefusedFor kinds)
 
 -- the text that the words give an option, or its default
 unfoldable pub text_in : List Text → Text → Option Text
@@ -78,3 +120,20 @@ is_true (Some text) = bytes_eq text (codes "true")
 
 abbrev pub show_in : List Text → Bool
 show_in words = is_true (text_in words (codes "show"))
+
+-- what a command line asks for
+pub record Asked : Type 0 where
+  pub width : ℕ
+  pub height : ℕ
+  pub profile : Profile
+  pub every : ℕ
+  pub is_show : Bool
+
+unfoldable pub asked_in : List Text → Asked
+asked_in words = record {
+  width = width_in words;
+  height = height_in words;
+  profile = unwrap_or (terminal_in words) Plain;
+  every = every_in words;
+  is_show = show_in words;
+}

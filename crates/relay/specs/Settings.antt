@@ -1,33 +1,39 @@
 -- Which words are a command line that can be run, and the values that they give the options.
 use Rattle.std.specs.Prelude.{◌≡◌, ◌<◌, ◌≤◌, ◌⊎◌, ⊤, ℕ, Bool, true, false, List, [], ◌∷◌, ◌++◌, codes, map}
+use Rattle.std.specs.Prelude.{if◌then◌else◌}
 use Rattle.std.specs.List.{AllByRecursion, IsDistinct}
 use Rattle.std.specs.Str.{bytes_eq}
 use Rattle.std.specs.Str.Parse.{IsNumeral, digits_value, without_leading_plus}
 use Rattle.clap.specs.Words.{Text}
+use Rattle.terminal_steps.specs.declared.profile.Profile.{Profile}
+use Rattle.terminal_steps.specs.declared.profile.Profile.TheVariants.{Plain, Xterm}
 
--- an option that is given, with the text of its number where it takes one
+-- an option that is given, with its text where it takes one
 pub data Setting : Type 0 where
   Width : Text → Setting
   Height : Text → Setting
+  Terminal : Text → Setting
   Every : Text → Setting
   Show : Setting
 
 abbrev pub name_of : Setting → Text
 name_of (Width text) = codes "width"
 name_of (Height text) = codes "height"
+name_of (Terminal text) = codes "terminal"
 name_of (Every text) = codes "every"
 name_of Show = codes "show"
 
 -- the words are `--name text`, or the one word `--name=text`
-abbrev pub GiveNumber : Text → Text → List Text → Type 0
-GiveNumber name text words =
+abbrev pub GiveText : Text → Text → List Text → Type 0
+GiveText name text words =
     (words ≡ (codes "--" ++ name) ∷ text ∷ []) ⊎ (words ≡ (codes "--" ++ (name ++ (codes "=" ++ text))) ∷ [])
 
 -- the words give the option
 abbrev pub Give : Setting → List Text → Type 0
-Give (Width text) words = GiveNumber (codes "width") text words
-Give (Height text) words = GiveNumber (codes "height") text words
-Give (Every text) words = GiveNumber (codes "every") text words
+Give (Width text) words = GiveText (codes "width") text words
+Give (Height text) words = GiveText (codes "height") text words
+Give (Terminal text) words = GiveText (codes "terminal") text words
+Give (Every text) words = GiveText (codes "every") text words
 Give Show words = words ≡ codes "--show" ∷ []
 
 -- the words give these options, one after the other; `--` may follow them
@@ -44,9 +50,15 @@ number_of text = digits_value 10 (without_leading_plus text)
 abbrev pub IsNumberTo : ℕ → Text → Type 0
 IsNumberTo most text = IsNumeral 10 (without_leading_plus text) × (0 < number_of text) × (number_of text ≤ most)
 
+-- the text is the name of a profile
+abbrev pub IsProfile : Text → Type 0
+IsProfile text = (text ≡ codes "plain") ⊎ (text ≡ codes "xterm")
+
+-- the option takes the text
 abbrev pub IsInRange : Setting → Type 0
 IsInRange (Width text) = IsNumberTo 4096 text
 IsInRange (Height text) = IsNumberTo 4096 text
+IsInRange (Terminal text) = IsProfile text
 IsInRange (Every text) = IsNumberTo 4294967295 text
 IsInRange Show = ⊤
 
@@ -69,6 +81,12 @@ abbrev pub height_given : List Setting → ℕ
 height_given [] = 24
 height_given (Height text ∷ remaining) = number_of text
 height_given (_ ∷ remaining) = height_given remaining
+
+-- the profile of the terminal, or the default, which is plain
+abbrev pub profile_given : List Setting → Profile
+profile_given [] = Plain
+profile_given (Terminal text ∷ remaining) = if bytes_eq text (codes "xterm") then Xterm else Plain
+profile_given (_ ∷ remaining) = profile_given remaining
 
 -- after how many bytes an update is written, or the default of 4096
 abbrev pub every_given : List Setting → ℕ

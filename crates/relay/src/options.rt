@@ -1,12 +1,16 @@
 //! The options of a command line.
-ghost use Rattle.std.specs.Prelude.{◌≡◌, ◌<◌, ◌≤◌, false, Some, IfOk, map};
-ghost use Rattle.clap.specs.Words.{FailsBy, app_of, found_of, one_text, rule_of};
+ghost use Rattle.std.specs.Prelude.{◌≡◌, ◌<◌, ◌≤◌, false, IfErr, IfOk, codes, map, option_and_then};
+ghost use Rattle.clap.specs.Words.{FailsBy, app_of, fault_of, first_value, found_of, matches_of, one_text, rows_of};
+ghost use Rattle.clap.specs.Words.{rule_of};
+ghost use Rattle.clap.specs.declared.error.kind.ErrorKind.TheVariants.{InvalidValue};
 ghost use Rattle.relay.specs.CommandLine.{chosen, command_line, named, number_rule, flag_rule, faults_in, number_or};
-ghost use Rattle.relay.specs.CommandLine.{width_in, height_in, every_in, is_true, show_in};
+ghost use Rattle.relay.specs.CommandLine.{RefusesFor, asked_in, is_true, kind_in, profile_named, profile_read};
+ghost use Rattle.relay.specs.CommandLine.{text_rule};
 
 use clap::{Arg, ArgAction, ArgMatches, Command, Error, value_parser};
 use std::alloc::{AllocError, Global};
 use std::convert::AsStr;
+use terminal::Profile;
 
 /// The options that a command line asks for.
 #[derive(Clone, Copy, Debug, PartialEq, Eq)]
@@ -15,6 +19,8 @@ pub struct Options {
     pub width: usize,
     /// Rows of the screen, 1 to 4096.
     pub height: usize,
+    /// The functions that the application's terminal has.
+    pub profile: Profile,
     /// After how many bytes an update is written, 1 to 2^32 - 1.
     pub every: usize,
     /// Whether the rows are written once, at the end, in place of updates.
@@ -22,6 +28,15 @@ pub struct Options {
     ghost width_in: { (0 < width) × (width ≤ 4096) },
     ghost height_in: { (0 < height) × (height ≤ 4096) },
     ghost every_in: { 0 < every },
+}
+
+/// Why the words of a command line are refused.
+#[derive(Debug, Drop)]
+pub enum BadWords<'a> {
+    /// The words are no command line, or only ask for help or for the version.
+    Command(Error),
+    /// The terminal's name, which is no profile's.
+    Terminal(&'a str),
 }
 
 const MOST: u32 = 4096;
@@ -43,6 +58,19 @@ fn number_option<'a>(
         .long(name)
         .value_name("N")
         .value_parser(numbers)
+        .default_value(default)
+        .help(help)
+}
+
+// An option whose value is any text.
+fn text_option<'a>(alloc: Global, name: &'a str, default: &'a str, help: &'a str) -> Arg<'a>
+    ensures rule { rule_of result ≡ text_rule name.entry.now default.entry.now }
+    ensures help { result.help ≡ Some help.entry }
+    ensures local { result.global ≡ false }
+{
+    Arg::new(alloc, name)
+        .long(name)
+        .value_name("NAME")
         .default_value(default)
         .help(help)
 }
@@ -89,6 +117,12 @@ fn command<'a>(alloc: Global) -> Result<Command<'a>, AllocError>
         "Columns of the screen, 1 to 4096",
     );
     let height = number_option(alloc, "height", "24", MOST, "Rows of the screen, 1 to 4096");
+    let terminal = text_option(
+        alloc,
+        "terminal",
+        "plain",
+        "The terminal of the application [possible values: plain, xterm]",
+    );
     let every = number_option(
         alloc,
         "every",
@@ -104,6 +138,7 @@ fn command<'a>(alloc: Global) -> Result<Command<'a>, AllocError>
     named_command(alloc)?
         .arg(width)?
         .arg(height)?
+        .arg(terminal)?
         .arg(every)?
         .arg(show)
 }
@@ -136,19 +171,65 @@ fn flag(matches: &ArgMatches<'_>, name: &str) -> bool
     matches.get_one::<bool>(name).unwrap_or(false)
 }
 
-/// Reads a command line, of which the first word is the program's name.
-pub fn read<'a, S: AsStr>(alloc: Global, words: &'a [S]) -> Result<Options, Error>
-    ensures width { IfOk result (λ options. options.width ≡ width_in (map S.text words.entry.now)) }
-    ensures height { IfOk result (λ options. options.height ≡ height_in (map S.text words.entry.now)) }
-    ensures every { IfOk result (λ options. options.every ≡ every_in (map S.text words.entry.now)) }
-    ensures show { IfOk result (λ options. options.is_show ≡ show_in (map S.text words.entry.now)) }
-    ensures faults { FailsBy (faults_in (map S.text words.entry.now)) result }
+// The profile of a name, if it is one.
+#[tactic(auto, unfolding(crate::specs::CommandLine::profile_named))]
+fn profile_named(name: &str) -> Option<Profile>
+    ensures { result ≡ profile_named name.now }
 {
-    let matches = command(alloc)?.try_get_matches_from(words)?;
-    Ok(Options {
-        width: number(&matches, "width", 80, MOST),
-        height: number(&matches, "height", 24, MOST),
-        every: number(&matches, "every", 4096, u32::MAX),
-        is_show: flag(&matches, "show"),
-    })
+    match name {
+        "plain" => Some(Profile::Plain),
+        "xterm" => Some(Profile::Xterm),
+        _ => None,
+    }
+}
+
+// The profile of the terminal's name.
+fn profile_in<'a>(matches: &ArgMatches<'a>) -> Result<Profile, BadWords<'a>>
+    ensures read { profile_read result
+        ≡ option_and_then profile_named (first_value (found_of matches.now) (codes "terminal")) }
+    ensures refused { IfErr result (λ bad. kind_in bad ≡ InvalidValue) }
+{
+    let Some(name) = matches.get_str("terminal") else {
+        return Err(BadWords::Terminal(""));
+    };
+    match profile_named(name) {
+        Some(profile) => Ok(profile),
+        None => Err(BadWords::Terminal(name)),
+    }
+}
+
+// The matches of a command line.
+fn matches_of<'a, S: AsStr>(alloc: Global, words: &'a [S]) -> Result<ArgMatches<'a>, Error>
+    ensures rows { IfOk result
+        (λ matches. rows_of (found_of matches) ≡ matches_of command_line (map S.text words.entry.now)) }
+    ensures faults { FailsBy (fault_of command_line (map S.text words.entry.now)) result }
+{
+    command(alloc)?.try_get_matches_from(words)
+}
+
+/// Reads a command line, of which the first word is the program's name.
+pub fn read<'a, S: AsStr>(alloc: Global, words: &'a [S]) -> Result<Options, BadWords<'a>>
+    ensures asked { IfOk result (λ options. asked_in (map S.text words.entry.now) ≡ record {
+      width = options.width;
+      height = options.height;
+      profile = options.profile;
+      every = options.every;
+      is_show = options.is_show;
+    }) }
+    ensures faults { RefusesFor (faults_in (map S.text words.entry.now)) result }
+{
+    let matches = match matches_of(alloc, words) {
+        Ok(matches) => matches,
+        Err(error) => return Err(BadWords::Command(error)),
+    };
+    match profile_in(&matches) {
+        Ok(profile) => Ok(Options {
+            width: number(&matches, "width", 80, MOST),
+            height: number(&matches, "height", 24, MOST),
+            profile,
+            every: number(&matches, "every", 4096, u32::MAX),
+            is_show: flag(&matches, "show"),
+        }),
+        Err(bad) => Err(bad),
+    }
 }

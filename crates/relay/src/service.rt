@@ -1,24 +1,24 @@
 //! The program on its words and streams.
-ghost use Rattle.std.specs.Prelude.{false, ◌≡◌, ◌≢◌, ◌⊎◌, ◌↔◌, ◌||◌, ◌≤◌, ◌^◌, [], codes, is_err, map};
+ghost use Rattle.std.specs.Prelude.{false, ◌≡◌, ◌≢◌, ◌⊎◌, ◌↔◌, ◌||◌, ◌++◌, ◌≤◌, ◌^◌, [], codes, is_err, map};
 ghost use Rattle.std.specs.Prelude.{IfSome, IsErr, IsErrOf, IsTrue, OnOk, OnErr};
 ghost use Rattle.std.specs.Io.KnownBytes.{Appends, Keeps};
 ghost use Rattle.terminal.specs.Shown.{AppendsPrefix};
 ghost use Rattle.terminal.specs.Watched.{IsUnread};
 ghost use Rattle.clap.specs.Words.{IsAmong, kind_of};
-ghost use Rattle.relay.specs.CommandLine.{HasMistake, faults_in};
+ghost use Rattle.relay.specs.CommandLine.{HasMistake, faults_in, kind_in};
 ghost use Rattle.relay.specs.Faults.{IsReported, fault_line, fault_text};
-ghost use Rattle.relay.specs.Output.{MemoryRunsOut, NumbersRunOut, written, written_in};
+ghost use Rattle.relay.specs.Output.{MemoryRunsOut, NumbersRunOut, asked_of, written, written_in};
 ghost use Rattle.relay.specs.Reports.{EndsWithFault, ReportsFault};
 
 use crate::lent::Lent;
 use crate::options;
-use crate::options::Options;
+use crate::options::{BadWords, Options};
 use clap::Error;
 use clap::error::ErrorKind;
 use std::alloc::Global;
 use std::convert::AsStr;
 use std::io::{Read, Write};
-use terminal::{ProgramWidth, RunError, TerminalError, Watched, run, show};
+use terminal::{ProgramWidth, RunError, Terminal, TerminalError, Watched, run_on, show_on};
 
 const FAULT: u8 = 1;
 
@@ -78,6 +78,37 @@ fn refuse<F: Write>(faults: &mut Watched<F>, text: &str) -> u8
     BAD_WORDS
 }
 
+const PROFILES: &str = "\
+' for '--terminal <NAME>'
+  [possible values: plain, xterm]
+
+For more information, try '--help'.
+";
+
+// Writes that a terminal has a name that is no profile's.
+fn write_refusal<F: Write>(faults: &mut Watched<F>, name: &str) -> Result<(), RunError>
+    ensures ok { OnOk result (Appends (F.contents faults.old.inner) (F.contents faults.new.inner)
+        (codes "error: invalid value '" ++ (name.now ++ PROFILES.now))) }
+    ensures failed { faults.new.has_failed ≡ (faults.old.has_failed || is_err result) }
+{
+    faults.write_all(b"error: invalid value '")?;
+    faults.write_all(name.as_bytes())?;
+    faults.write_all(PROFILES.as_bytes())
+}
+
+// Writes that a terminal has a name that is no profile's, and returns the status 2. If this can't be written, that is
+// ignored.
+fn refuse_terminal<F: Write>(faults: &mut Watched<F>, name: &str) -> u8
+    ensures status { result ≡ BAD_WORDS }
+    ensures reported { IsReported (λ f. F.contents f) faults.old faults.new
+        (codes "error: invalid value '" ++ (name.now ++ PROFILES.now)) }
+{
+    if write_refusal(faults, name).is_ok() {
+        let _ = faults.flush();
+    }
+    BAD_WORDS
+}
+
 fn fault_of(error: RunError) -> &'static str
     ensures { result.now ≡ fault_text error }
 {
@@ -132,6 +163,38 @@ fn explain<T: Write, F: Write>(
     0
 }
 
+// Writes why the words are refused to `faults`, or help or the version to `writer`.
+fn explain_words<T: Write, F: Write>(
+    alloc: Global,
+    words: &BadWords<'_>,
+    writer: &mut Watched<T>,
+    faults: &mut Watched<F>,
+) -> u8
+    requires { writer.old.has_failed ≡ false }
+    ensures status { result ≤ 2 }
+    ensures memory { kind_in words.now ≡ ErrorKind.OutOfMemory → result ≡ FAULT }
+    ensures asked { result ≡ 0
+        → (kind_in words.now ≡ ErrorKind.DisplayHelp) ⊎ (kind_in words.now ≡ ErrorKind.DisplayVersion) }
+    ensures shown { (kind_in words.now ≡ ErrorKind.DisplayHelp) ⊎ (kind_in words.now ≡ ErrorKind.DisplayVersion)
+        → result ≢ BAD_WORDS }
+    ensures flushed { result ≡ 0 → IsTrue writer.new.is_flushed }
+    ensures quiet { result ≡ 0 → Keeps (F.contents faults.old.inner) (F.contents faults.new.inner) }
+    ensures nothing { kind_in words.now ≡ ErrorKind.OutOfMemory
+        → Keeps (T.contents writer.old.inner) (T.contents writer.new.inner) }
+    ensures refused { result ≡ BAD_WORDS → Keeps (T.contents writer.old.inner) (T.contents writer.new.inner) }
+    ensures written { kind_in words.now ≡ ErrorKind.OutOfMemory → AppendsPrefix (F.contents faults.old.inner)
+        (F.contents faults.new.inner) (fault_line (codes "out of memory")) }
+    ensures unwritten { IsTrue writer.new.has_failed → (result ≡ FAULT)
+        × IsReported (λ f. F.contents f) faults.old faults.new (fault_line (codes "cannot write")) }
+    ensures unrendered { result ≡ FAULT → writer.new.has_failed ≡ false
+        → IsReported (λ f. F.contents f) faults.old faults.new (fault_line (codes "out of memory")) }
+{
+    match words {
+        BadWords::Command(error) => explain(alloc, error, writer, faults),
+        BadWords::Terminal(name) => refuse_terminal(faults, name),
+    }
+}
+
 // Writes the output that the options ask for of the reader's input: the rows, or the updates.
 fn answer<R: Read, T: Write>(
     alloc: Global,
@@ -144,19 +207,19 @@ fn answer<R: Read, T: Write>(
     ensures ok { OnOk result
         (IfSome (R.remaining reader.old.inner)
         (λ input. Appends (T.contents writer.old.inner) (T.contents writer.new.inner)
-        (written options.is_show options.width options.height options.every input))) }
+        (written (asked_of options) input))) }
     ensures err { OnErr result
         (IfSome (R.remaining reader.old.inner)
         (λ input. AppendsPrefix (T.contents writer.old.inner) (T.contents writer.new.inner)
-        (written options.is_show options.width options.height options.every input))) }
+        (written (asked_of options) input))) }
     ensures read { IsErrOf result RunError.Read ↔ IsTrue reader.new.has_failed }
     ensures write { IsErrOf result RunError.Write ↔ IsTrue writer.new.has_failed }
     ensures too_long { IsErrOf result RunError.TooLong → reader.new.reads ≡ 2 ^ 48 }
     ensures failed { IsErrOf result (RunError.Terminal TerminalError.Failed) → ⊥ }
     ensures number { IsErrOf result (RunError.Terminal TerminalError.Number) → IfSome (R.remaining reader.old.inner)
-        (NumbersRunOut options.is_show options.width options.height options.every) }
+        (NumbersRunOut (asked_of options)) }
     ensures memory { IsErrOf result (RunError.Terminal TerminalError.Memory) → IfSome (R.remaining reader.old.inner)
-        (MemoryRunsOut options.is_show options.width options.height options.every (R.remaining reader.new.inner)) }
+        (MemoryRunsOut (asked_of options) (R.remaining reader.new.inner)) }
     // After a fault of the reader or the writer the one that failed isn't called again.
     ensures ends_reads { reader.new.has_gone_on ≡ reader.old.has_gone_on }
     ensures ends_writes { writer.new.has_gone_on ≡ writer.old.has_gone_on }
@@ -164,13 +227,15 @@ fn answer<R: Read, T: Write>(
     let Options {
         width,
         height,
+        profile,
         every,
         is_show,
     } = options;
+    let mut terminal = Terminal::with_profile(alloc, width, height, ProgramWidth, profile)?;
     if is_show {
-        show(alloc, reader, writer, width, height, ProgramWidth)
+        show_on(&mut terminal, reader, writer)
     } else {
-        run(alloc, reader, writer, width, height, every, ProgramWidth)
+        run_on(&mut terminal, reader, writer, every)
     }
 }
 
@@ -208,7 +273,7 @@ fn relay<S: AsStr, R: Read, T: Write, F: Write>(
 {
     let options = match options::read(alloc, words) {
         Ok(options) => options,
-        Err(error) => return explain(alloc, &error, writer, faults),
+        Err(bad) => return explain_words(alloc, &bad, writer, faults),
     };
     match answer(alloc, options, reader, writer) {
         Ok(()) => 0,
@@ -217,8 +282,9 @@ fn relay<S: AsStr, R: Read, T: Write, F: Write>(
 }
 
 /// The program on its words, of which the first is its name, and on its streams. The output that the words
-/// ask for is written to `writer`: the updates of the reader's input, one after each `--every` bytes and
-/// one at the end, or with `--show` the rows of the screen at the end; or help, or the version.
+/// ask for is written to `writer`: the updates of the reader's input on a terminal of the profile `--terminal`, one
+/// after each `--every` bytes and one at the end, or with `--show` the rows of the screen at the end; or help, or the
+/// version.
 ///
 /// It returns the status: 0; or 1 with one line on `faults`, where reading, writing, memory or numbers
 /// failed or the input was too long, and then a prefix of the output may have been written; or 2 with a

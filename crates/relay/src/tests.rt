@@ -153,13 +153,46 @@ fn takes_each_option_of_a_command_line(rt: HostRuntime) {
             "4",
         ],
     );
-    assert_shown(&rt, &["relay", "--width=4", "--height=3", "--show"]);
+    assert_shown(
+        &rt,
+        &[
+            "relay",
+            "--width=4",
+            "--height=3",
+            "--terminal=plain",
+            "--show",
+        ],
+    );
     assert_shown(
         &rt,
         &[
             "relay", "--every", "1", "--width", "4", "--show", "--height", "3",
         ],
     );
+}
+
+// Margins are a function of xterm alone: a line feed at the bottom one scrolls what is between them.
+const MARGINS: &[u8] = b"a\r\nb\r\nc\x1b[1;2r\x1b[2;1H\nd";
+
+#[test]
+fn shows_the_functions_of_the_terminal(rt: HostRuntime) {
+    let words = ["relay", "--width", "1", "--height", "3", "--show"];
+    let plain = (0, b"a\nb\nd\n".as_slice(), NOTHING);
+    let input = input_in(MARGINS, 100, 100);
+    assert_run(&rt, &words, input, (100, 100), plain);
+    let words = [
+        "relay",
+        "--width",
+        "1",
+        "--height",
+        "3",
+        "--show",
+        "--terminal",
+        "xterm",
+    ];
+    let xterm = (0, b"b\nd\nc\n".as_slice(), NOTHING);
+    let input = input_in(MARGINS, 100, 100);
+    assert_run(&rt, &words, input, (100, 100), xterm);
 }
 
 #[test]
@@ -287,6 +320,13 @@ Usage: relay [OPTIONS]
 For more information, try '--help'.
 ";
 
+const NO_PROFILE: &str = "\
+error: invalid value 'vt100' for '--terminal <NAME>'
+  [possible values: plain, xterm]
+
+For more information, try '--help'.
+";
+
 const TWICE: &str = "\
 error: the argument '--show' cannot be used multiple times
 
@@ -304,6 +344,7 @@ fn refuses_bad_command_lines(rt: HostRuntime) {
     assert_refused(&rt, &["relay", "--every", "4294967296"], TOO_SELDOM);
     assert_refused(&rt, &["relay", "--depth", "3"], UNKNOWN);
     assert_refused(&rt, &["relay", "--show", "--show"], TWICE);
+    assert_refused(&rt, &["relay", "--terminal", "vt100"], NO_PROFILE);
 }
 
 pub(crate) const HELP: &str = "\
@@ -312,12 +353,13 @@ Keeps the screen of an application, and writes what a viewer needs to show it
 Usage: relay [OPTIONS]
 
 Options:
-      --width <N>   Columns of the screen, 1 to 4096 [default: 80]
-      --height <N>  Rows of the screen, 1 to 4096 [default: 24]
-      --every <N>   Bytes of input between two updates, 1 to 4294967295 [default: 4096]
-      --show        Write the rows of the screen once, at the end of the input
-  -h, --help        Print help
-  -V, --version     Print version
+      --width <N>        Columns of the screen, 1 to 4096 [default: 80]
+      --height <N>       Rows of the screen, 1 to 4096 [default: 24]
+      --terminal <NAME>  The terminal of the application [possible values: plain, xterm] [default: plain]
+      --every <N>        Bytes of input between two updates, 1 to 4294967295 [default: 4096]
+      --show             Write the rows of the screen once, at the end of the input
+  -h, --help             Print help
+  -V, --version          Print version
 
 Standard input: the bytes that an application writes to its terminal.
 Standard output: updates, each the bytes that bring a viewer's terminal of the

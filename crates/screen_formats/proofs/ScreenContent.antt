@@ -104,7 +104,7 @@ text_holds row run =
 paper_holds : (row : ℕ) (run : Run) → Holds Xml (svg_background row run) []
 unfolding svg_background
 paper_holds row run =
-    either (has_background run.attributes) _ [] [] (rectangle_holds (column_units run.column) (row_units row) (column_units run.columns) (codes "20") (hex_color (background_color run.attributes)) []) (tt, refl)
+    either (has_background run.attributes) _ [] [] (rectangle_holds (column_units run.column) (row_units row) (column_units run.columns) (codes "18") (hex_color (background_color run.attributes)) []) (tt, refl)
 
 svg_row_holds : (at : ℕ) (row : Row) → Holds Xml (svg_row at row) (row_content Xml row)
 unfolding svg_row
@@ -118,7 +118,7 @@ svg_rows_hold at (row ∷ rows) = holds_both Xml (svg_row at row) (svg_rows (at 
 
 cursor_holds : (screen : Screen) → Holds Xml (svg_cursor screen) []
 unfolding svg_cursor
-cursor_holds screen = either screen.visible _ [] [] (rectangle_holds (column_units (min screen.column (screen.width - 1))) (row_units screen.row) (codes "10") (codes "20") (hex_color default_foreground) (codes "0.5")) (tt, refl)
+cursor_holds screen = either screen.visible _ [] [] (rectangle_holds (column_units (min screen.column (screen.width - 1))) (row_units screen.row) (codes "10") (codes "18") (hex_color default_foreground) (codes "0.5")) (tt, refl)
 
 opening_holds : (width height : Text) → Holds Xml (svg_opening width height) []
 unfolding svg_opening sized_opening

@@ -18,12 +18,13 @@ abbrev pub background_style : Attributes → List ℕ
 background_style a =
     if has_background a then color_style (codes "background-color") (hex_color (background_color a)) else []
 
--- whether a font may draw cells wider or narrower than their columns of digits: cells of two columns, and texts that
--- aren't printable ASCII
-abbrev pub is_uneven : Run → Bool
-is_uneven run = run.width == 2 || not (list_all is_printable run.text)
+-- whether cells are drawn in a box of their own, as high as the row: where a font may draw them wider or narrower than
+-- their columns of digits (cells of two columns, and texts that aren't printable ASCII), and where they have a
+-- background, which is to join that of the next row
+abbrev pub is_boxed : Run → Bool
+is_boxed run = run.width == 2 || (has_background run.attributes || not (list_all is_printable run.text))
 
--- uneven cells get the width of their columns, in `ch`, the width of a digit, whatever the font
+-- a box has the width of its columns, in `ch`, the width of a digit, whatever the font
 abbrev pub width_style : Bool → ℕ → List ℕ
 width_style is_set columns =
     if is_set then codes "display:inline-block;width:" ++ decimal columns ++ codes "ch;" else []
@@ -46,7 +47,7 @@ html_element uri words style text =
 unfoldable pub html_run : Run → List Token
 html_run run =
     html_element (link_uri run.attributes) (rendition_words run.attributes)
-    (html_style run.attributes (is_uneven run) run.columns) run.text
+    (html_style run.attributes (is_boxed run) run.columns) run.text
 
 -- the runs of a row, and a line feed
 abbrev pub html_row : Row → List Token

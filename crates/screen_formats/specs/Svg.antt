@@ -1,4 +1,5 @@
--- A screen as SVG: a column is 10 units wide, and a row 20 units high.
+-- A screen as SVG: a column is 10 units wide, and a row 18 units high, as high as the box of the letters.
+-- Usual fonts are 0.6 times as wide as they are large, and 1.1 to 1.2 times as high.
 use Rattle.std.specs.Prelude.{Bool, true, false, ℕ, ◌+◌, ◌-◌, ◌*◌, ◌==◌, min, List, [], ◌∷◌, ◌++◌, codes, decimal}
 use Rattle.std.specs.Prelude.{length, if◌then◌else◌}
 use Rattle.std.specs.List.{flat_map}
@@ -22,11 +23,11 @@ abbrev pub column_units : ℕ → Text
 column_units columns = decimal (10 * columns)
 
 abbrev pub row_units : ℕ → Text
-row_units rows = decimal (20 * rows)
+row_units rows = decimal (18 * rows)
 
 -- the base line of the letters of a row
 abbrev pub base_line : ℕ → Text
-base_line row = decimal (20 * row + 15)
+base_line row = decimal (18 * row + 14)
 
 -- ---- elements
 
@@ -51,14 +52,19 @@ linked uri tokens =
 
 -- ---- runs
 
+-- the line under a link, unless the cells have lines of their own, whose declaration comes later
+abbrev pub link_line : Text → Text
+link_line uri = if length uri == 0 then [] else codes "text-decoration:underline;"
+
 unfoldable pub svg_style : Attributes → Text
-svg_style a = color_style (codes "fill") (hex_color (text_color a)) ++ rendition_style a
+svg_style a =
+    color_style (codes "fill") (hex_color (text_color a)) ++ (link_line (link_uri a) ++ rendition_style a)
 
 -- the rectangle behind a run, if the run has a background
 unfoldable pub svg_background : ℕ → Run → List Token
 svg_background row run =
     if has_background run.attributes
-    then rectangle (column_units run.column) (row_units row) (column_units run.columns) (codes "20")
+    then rectangle (column_units run.column) (row_units row) (column_units run.columns) (codes "18")
     (hex_color (background_color run.attributes)) [] else []
 
 abbrev pub svg_letters : ℕ → Run → List Token
@@ -93,7 +99,7 @@ unfoldable pub svg_cursor : Screen → List Token
 svg_cursor screen =
     if screen.visible
     then rectangle (column_units (min screen.column (screen.width - 1))) (row_units screen.row) (codes "10")
-    (codes "20") (hex_color default_foreground) (codes "0.5") else []
+    (codes "18") (hex_color default_foreground) (codes "0.5") else []
 
 unfoldable pub sized_opening : Text → Text → Text → List Token
 sized_opening width height view_box =
@@ -103,7 +109,7 @@ sized_opening width height view_box =
     ∷ (codes "height", height)
     ∷ (codes "viewBox", view_box)
     ∷ (codes "font-family", codes "monospace")
-    ∷ (codes "font-size", codes "16")
+    ∷ (codes "font-size", codes "16.7")
     ∷ []
     ) ∷ []
 

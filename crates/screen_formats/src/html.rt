@@ -3,7 +3,7 @@ ghost use Rattle.std.specs.Prelude.{◌≡◌, ◌++◌, map, IfOk, OnOk};
 ghost use Rattle.std.specs.String.{string_bytes};
 ghost use Rattle.cell_surface.specs.Surface.{shown_by};
 ghost use Rattle.screen_formats.specs.Html.{background_style, html_element, html_name, html_row, html_rows, html_run};
-ghost use Rattle.screen_formats.specs.Html.{html_style, html_text, text_style, is_uneven, screen_style, width_style};
+ghost use Rattle.screen_formats.specs.Html.{html_style, html_text, text_style, is_boxed, screen_style, width_style};
 ghost use Rattle.screen_formats.specs.Tokens.{tokens_text};
 ghost use Rattle.screen_formats.specs.declared.escape.Markup.TheVariants.{Html};
 
@@ -32,11 +32,12 @@ fn background_style(alloc: Global, attrs: &CellAttributes) -> Result<String, All
     Ok(style)
 }
 
-// Whether a font may draw the cells of a run wider or narrower than their columns of digits.
-fn is_uneven(run: &Run<'_>) -> bool
-    ensures { result ≡ is_uneven run.now }
+// Whether the cells of a run are drawn in a box of their own: where a font may draw them wider or narrower than their
+// columns of digits, and where they have a background.
+fn is_boxed(run: &Run<'_>) -> bool
+    ensures { result ≡ is_boxed run.now }
 {
-    run.width == 2 || !are_printable(run.text.as_bytes())
+    run.width == 2 || has_background(run.attrs) || !are_printable(run.text.as_bytes())
 }
 
 // The declaration of the width of some columns, if it is set.
@@ -111,7 +112,7 @@ fn push_run(alloc: Global, out: &mut String, run: &Run<'_>) -> Result<(), AllocE
     ensures { OnOk result (string_bytes out.new ≡ string_bytes out.old ++ tokens_text Html (html_run run.now)) }
 {
     let words = rendition_words(alloc, run.attrs)?;
-    let style = html_style(alloc, run.attrs, is_uneven(run), run.columns)?;
+    let style = html_style(alloc, run.attrs, is_boxed(run), run.columns)?;
     push_html_element(out, link_uri(run.attrs), &words, &style, &run.text)?;
     Ok(())
 }
@@ -155,7 +156,8 @@ fn screen_style(alloc: Global) -> Result<String, AllocError>
 /// Writes a screen as HTML: an element `pre` of class `screen`, in which each row has a line feed after it. A run is a
 /// `span`, or an `a` where it has a link of the scheme http, https, mailto or file. Its class has the words of
 /// `rendition_words`, and its style draws all attributes except blinking, superscript and subscript. Cells that a font
-/// may draw wider or narrower get the width of their columns.
+/// may draw wider or narrower, and those with a background, are boxes with the width of their columns, as high as the
+/// row.
 ///
 /// Of a surface that has failed the contract says only that its cells are written.
 pub fn write_html<W: Widths + Drop>(

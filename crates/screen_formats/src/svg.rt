@@ -4,7 +4,8 @@ ghost use Rattle.std.specs.String.{string_bytes};
 ghost use Rattle.std.specs.List.{flat_map};
 ghost use Rattle.cell_surface.specs.Surface.{shown_by};
 ghost use Rattle.screen_formats.specs.Tokens.{Closing, Words, tokens_text};
-ghost use Rattle.screen_formats.specs.Svg.{base_line, column_units, placed_text, rectangle, row_units, sized_opening};
+ghost use Rattle.screen_formats.specs.Svg.{base_line, column_units, link_line, placed_text, rectangle, row_units};
+ghost use Rattle.screen_formats.specs.Svg.{sized_opening};
 ghost use Rattle.screen_formats.specs.Svg.{svg_cursor, svg_head, svg_letters, svg_opening, svg_background, svg_part};
 ghost use Rattle.screen_formats.specs.Svg.{svg_row, svg_rows, svg_runs, svg_style, svg_text, svg_text_of};
 ghost use Rattle.screen_formats.specs.declared.escape.Markup.TheVariants.{Xml};
@@ -35,7 +36,7 @@ fn column_units(alloc: Global, columns: usize) -> Result<String, AllocError>
 fn row_units(alloc: Global, rows: usize) -> Result<String, AllocError>
     ensures { IfOk result (λ text. string_bytes text ≡ row_units rows) }
 {
-    let units = 20 * rows as u128;
+    let units = 18 * rows as u128;
     let text = format!(in alloc; "{units}")?;
     Ok(text)
 }
@@ -44,9 +45,20 @@ fn row_units(alloc: Global, rows: usize) -> Result<String, AllocError>
 fn base_line(alloc: Global, row: usize) -> Result<String, AllocError>
     ensures { IfOk result (λ text. string_bytes text ≡ base_line row) }
 {
-    let units = 20 * row as u128 + 15;
+    let units = 18 * row as u128 + 14;
     let text = format!(in alloc; "{units}")?;
     Ok(text)
+}
+
+// The declaration of the line under a link, where a text has one.
+fn link_line(uri: &str) -> &'static str
+    ensures { result.now ≡ link_line uri.now }
+{
+    if uri.is_empty() {
+        ""
+    } else {
+        "text-decoration:underline;"
+    }
 }
 
 // The style of a text, as declarations of CSS.
@@ -54,8 +66,10 @@ fn base_line(alloc: Global, row: usize) -> Result<String, AllocError>
 fn svg_style(alloc: Global, attrs: &CellAttributes) -> Result<String, AllocError>
     ensures { IfOk result (λ style. string_bytes style ≡ svg_style attrs.now) }
 {
-    let mut style = color_style(alloc, "fill", text_color(attrs))?;
-    style.push_str(&rendition_style(alloc, attrs)?)?;
+    let fill = color_style(alloc, "fill", text_color(attrs))?;
+    let line = link_line(link_uri(attrs));
+    let rendition = rendition_style(alloc, attrs)?;
+    let style = format!(in alloc; "{fill}{line}{rendition}")?;
     Ok(style)
 }
 
@@ -141,7 +155,7 @@ fn push_background(
     let y = row_units(alloc, row)?;
     let width = column_units(alloc, run.columns)?;
     let fill = hex_color(alloc, background_color(run.attrs))?;
-    push_rectangle(out, &x, &y, &width, "20", &fill, "")?;
+    push_rectangle(out, &x, &y, &width, "18", &fill, "")?;
     Ok(())
 }
 
@@ -257,7 +271,7 @@ fn push_cursor<W: Widths + Drop>(
     let x = column_units(alloc, column.min(width.saturating_sub(1)))?;
     let y = row_units(alloc, row)?;
     let fill = hex_color(alloc, DEFAULT_FOREGROUND)?;
-    push_rectangle(out, &x, &y, "10", "20", &fill, "0.5")?;
+    push_rectangle(out, &x, &y, "10", "18", &fill, "0.5")?;
     Ok(())
 }
 
@@ -283,7 +297,7 @@ fn push_sized_opening<'a>(
             ("height", height),
             ("viewBox", view_box),
             ("font-family", "monospace"),
-            ("font-size", "16"),
+            ("font-size", "16.7"),
         ],
     )?;
     Ok(())
@@ -334,7 +348,7 @@ fn push_end(out: &mut String) -> Result<(), AllocError>
     Ok(())
 }
 
-/// Writes a screen as SVG: columns of 10 units and rows of 20, with the title, a rectangle behind each run that has a
+/// Writes a screen as SVG: columns of 10 units and rows of 18, with the title, a rectangle behind each run that has a
 /// background, the text of each run, as long as its columns, in a link where it has one of the scheme http, https,
 /// mailto or file, and a rectangle for the cursor, if it is shown. Wide cells take two columns each. The class of a
 /// text has the words of `rendition_words`, and its style draws all attributes except blinking, superscript and

@@ -1,14 +1,13 @@
 -- Lines of a grid, and the display that they show.
 use Rattle.std.proofs.Common.{◌≡◌, ℕ, zero, suc, ◌+◌, ◌-◌, ◌<◌, true, List, [], ◌∷◌, ◌++◌, length, get_or, take, drop, set, map, replicate, refl, sym, ap, subst, ◌∙◌, arith, append-nil, length-set}
-use Rattle.std.specs.Prelude.{All, None, max}
+use Rattle.std.specs.Prelude.{All, None}
 use Rattle.std.proofs.lemmas.List.{get_or_default, get_or-map, length-map, length-replicate, drop_all, take_all, take_more_set}
 use Rattle.std.proofs.lemmas.List.Elements.{All-replicate}
-use Rattle.cell_base.specs.declared.attributes.LineAttribute.TheVariants.{SingleWidthLine}
 use Rattle.cell_base.specs.Attributes.{Attributes, plain}
 use Rattle.cell_base.specs.Row.{Row, blank, closed_start, plain_row}
 use Rattle.cell_line.specs.LineCalls.{set_blanks as blanks_set}
-use Rattle.cell_line.specs.LineContent.{LineContent, clustered_line_of, line_of, with_bits}
-use Rattle.screen_grid.specs.Rows.{blanked, cleared}
+use Rattle.cell_line.specs.LineContent.{LineContent, clustered_line_of, line_of}
+use Rattle.screen_grid.specs.Rows.{blanked}
 use Rattle.screen_grid.specs.Grid.{Grid, IsDrawn, IsRow, Shows, display_of, line_at}
 use Rattle.screen_effects.specs.Display.{Display, IsDisplay, new_display}
 use Rattle.screen_effects.proofs.StrokeLaws.{new_display_is}
@@ -43,13 +42,6 @@ line_is lines row x h k = k ∙ get_or_default lines row x (line_of 0 []) h
 -- a line that a call changed
 pub line_changed : (lines : List LineContent) (row : ℕ) (x new : LineContent) (f : LineContent → LineContent) → row < length lines → x ≡ get_or lines row x → new ≡ f x → set lines row new ≡ set lines row (f (line_at lines row))
 line_changed lines row x new f h k m = ap (set lines row) (m ∙ ap f (line_is lines row x h k))
-
--- a line that is blank in all columns and then of single width
-pub line_cleared : (l : LineContent) → with_bits (blanks_set l 0 (length l.columns) plain) 0 SingleWidthLine ≡ cleared l
-line_cleared l =
-    let number : max l.number 0 ≡ l.number = omega arith in
-    let all : (blanks_set l 0 (length l.columns) plain).columns ≡ plain_row (length l.columns) = ap (λ (y : LineContent). y.columns) (all_blank l plain) in
-    λ i. record l { number = number i; bits = SingleWidthLine; columns = all i }
 
 -- ---- the display of a grid
 

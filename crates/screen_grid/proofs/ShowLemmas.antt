@@ -127,12 +127,12 @@ module _ {A : Type 0} (f : LineContent → A) (new : A) (count : ℕ) where
 up_rows : (count : ℕ) (lines : List LineContent) → All IsRow lines → All IsRow (code_up count lines)
 up_rows count lines h =
     let n = min count (length lines) in
-    All-append IsRow (drop n lines) (map cleared (take n lines)) (All-drop IsRow n lines h) (All-map IsRow cleared (take n lines) (All-take IsRow n lines h))
+    All-append IsRow (drop n lines) (map cleared (take n lines)) (All-drop IsRow n lines h) (All-map IsRow cleared (take n lines) (λ k d p. (refl, refl)))
 
 down_rows : (count : ℕ) (lines : List LineContent) → All IsRow lines → All IsRow (code_down count lines)
 down_rows count lines h =
     let n = length lines - min count (length lines) in
-    All-append IsRow (map cleared (drop n lines)) (take n lines) (All-map IsRow cleared (drop n lines) (All-drop IsRow n lines h)) (All-take IsRow n lines h)
+    All-append IsRow (map cleared (drop n lines)) (take n lines) (All-map IsRow cleared (drop n lines) (λ k d p. (refl, refl))) (All-take IsRow n lines h)
 
 region_rows : (change : List LineContent → List LineContent) (first size : ℕ) (lines : List LineContent) → ((xs : List LineContent) → All IsRow xs → All IsRow (change xs)) → All IsRow lines → All IsRow (in_region change first size lines)
 region_rows change first size lines keeps p =

@@ -1,18 +1,17 @@
 -- Lines that are blanked, cleared and moved.
 use Rattle.std.specs.Prelude.{ℕ, ◌-◌, List, ◌++◌, length, take, drop, map, replicate}
-use Rattle.cell_base.specs.declared.attributes.LineAttribute.TheVariants.{SingleWidthLine}
 use Rattle.cell_base.specs.Attributes.{Attributes}
 use Rattle.cell_base.specs.Row.{blank, plain_row}
 use Rattle.cell_line.specs.LineCalls.{resize}
-use Rattle.cell_line.specs.LineContent.{LineContent}
+use Rattle.cell_line.specs.LineContent.{LineContent, clustered_line_of}
 
 -- blanks of these attributes in all columns
 abbrev pub blanked : Attributes → LineContent → LineContent
 blanked attributes l = record l { columns = replicate (length l.columns) (blank attributes) }
 
--- plain blanks of single width
+-- a clustered line of as many plain blanks, with no number and of single width
 abbrev pub cleared : LineContent → LineContent
-cleared l = record l { bits = SingleWidthLine; columns = plain_row (length l.columns) }
+cleared l = clustered_line_of 0 (plain_row (length l.columns))
 
 -- lines move to the start by `count`, and the first ones reappear at the end, cleared
 abbrev pub rows_up : ℕ → List LineContent → List LineContent

@@ -273,6 +273,7 @@ impl<W: Widths + Drop> Grid<W> {
     }
 
     // Applies a control of a text.
+    #[inline(always)]
     fn control(&mut self, control: u8) -> Result<(), AllocError>
         requires { IsDrawn self.old }
         ensures { OnOk result
@@ -324,8 +325,32 @@ impl<W: Widths + Drop> Grid<W> {
         Ok(())
     }
 
-    // Sets one attribute of the pen.
+    // Sets one attribute of the pen. Those that programs set most are set without a copy of the change.
+    #[inline(always)]
     fn set_attribute(&mut self, change: &AttributeChange) -> Result<(), AllocError>
+        requires { IsDrawn self.old }
+        ensures { OnOk result
+            (Shows self.old self.new
+            (effect (W.width_of self.old.widths) (display_of self.old) (Attribute (attribute_value change.now)))) }
+    {
+        match change {
+            AttributeChange::Intensity(value) => {
+                self.pen.set_intensity(*value);
+            }
+            AttributeChange::Foreground(color) => {
+                self.pen.set_foreground(*color);
+            }
+            AttributeChange::Background(color) => {
+                self.pen.set_background(*color);
+            }
+            _ => self.set_any_attribute(change)?,
+        }
+        Ok(())
+    }
+
+    // Sets one attribute of the pen by a copy of the change.
+    #[inline(never)]
+    fn set_any_attribute(&mut self, change: &AttributeChange) -> Result<(), AllocError>
         requires { IsDrawn self.old }
         ensures { OnOk result
             (Shows self.old self.new
@@ -408,41 +433,27 @@ impl<W: Widths + Drop> Grid<W> {
     }
 
     // Moves the rows of a region up, and adds plain rows below.
-    fn scroll_region_up(
-        &mut self,
-        first: usize,
-        size: usize,
-        count: usize,
-    ) -> Result<(), AllocError>
+    fn scroll_region_up(&mut self, first: usize, size: usize, count: usize)
         requires { IsDrawn self.old }
-        ensures { OnOk result
-            (Shows self.old self.new
-            (effect (W.width_of self.old.widths) (display_of self.old) (ScrollRegionUp first size count))) }
+        ensures { Shows self.old self.new
+            (effect (W.width_of self.old.widths) (display_of self.old) (ScrollRegionUp first size count)) }
     {
         let height = self.rows.len();
         let first = first.min(height);
         let after = first + size.min(height - first);
-        scroll_up(&mut self.rows, first, after, count.min(after - first))?;
-        Ok(())
+        scroll_up(&mut self.rows, first, after, count.min(after - first));
     }
 
     // Moves the rows of a region down, and adds plain rows above.
-    fn scroll_region_down(
-        &mut self,
-        first: usize,
-        size: usize,
-        count: usize,
-    ) -> Result<(), AllocError>
+    fn scroll_region_down(&mut self, first: usize, size: usize, count: usize)
         requires { IsDrawn self.old }
-        ensures { OnOk result
-            (Shows self.old self.new
-            (effect (W.width_of self.old.widths) (display_of self.old) (ScrollRegionDown first size count))) }
+        ensures { Shows self.old self.new
+            (effect (W.width_of self.old.widths) (display_of self.old) (ScrollRegionDown first size count)) }
     {
         let height = self.rows.len();
         let first = first.min(height);
         let after = first + size.min(height - first);
-        scroll_down(&mut self.rows, first, after, count.min(after - first))?;
-        Ok(())
+        scroll_down(&mut self.rows, first, after, count.min(after - first));
     }
 
     /// Applies a change.
@@ -469,12 +480,12 @@ impl<W: Widths + Drop> Grid<W> {
                 first_row,
                 region_size,
                 scroll_count,
-            } => self.scroll_region_up(*first_row, *region_size, *scroll_count)?,
+            } => self.scroll_region_up(*first_row, *region_size, *scroll_count),
             Change::ScrollRegionDown {
                 first_row,
                 region_size,
                 scroll_count,
-            } => self.scroll_region_down(*first_row, *region_size, *scroll_count)?,
+            } => self.scroll_region_down(*first_row, *region_size, *scroll_count),
             Change::Title(title) => self.title = title.clone()?,
         }
         Ok(())

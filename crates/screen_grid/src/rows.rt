@@ -71,16 +71,6 @@ pub(crate) fn blank_lines(
     Ok(rows)
 }
 
-// Makes a line one of plain blanks at normal size.
-fn clear_line(line: &mut Line) -> Result<(), AllocError>
-    ensures { OnOk result (line.new ≡ cleared line.old) }
-{
-    let width = line.len();
-    row_writing::set_blanks(line, 0..width, &CellAttributes::blank())?;
-    size_line(line, LineAttribute::SingleWidthLine);
-    Ok(())
-}
-
 // Drops the first line, and adds one of `width` plain blanks below.
 #[inline(always)]
 pub(crate) fn scroll(rows: &mut Ring<Line>, width: usize)
@@ -198,17 +188,17 @@ pub(crate) fn blank_rows_below(
 }
 
 // Makes the rows from `from` on and before `after` rows of plain blanks.
-fn clear_rows(rows: &mut Ring<Line>, from: usize, after: usize) -> Result<(), AllocError>
+fn clear_rows(rows: &mut Ring<Line>, from: usize, after: usize)
     requires order { from ≤ after }
     requires within { after ≤ length rows.old }
-    ensures { OnOk result
-        (rows.new
-        ≡ take from rows.old ++ map cleared (take (after - from) (drop from rows.old)) ++ drop after rows.old) }
+    ensures { rows.new
+        ≡ take from rows.old ++ map cleared (take (after - from) (drop from rows.old)) ++ drop after rows.old }
 {
     for row in from..after {
-        clear_line(&mut rows[row])?;
+        let line = &mut rows[row];
+        let width = line.len();
+        reset(line, width);
     }
-    Ok(())
 }
 
 // Moves the items of a region up by `count`; the items that leave it reappear below.
@@ -239,43 +229,29 @@ fn rotate_down<T>(items: &mut [T], first: usize, after: usize, count: usize)
 }
 
 // Moves the rows of a region up, and adds rows of plain blanks below.
-pub(crate) fn scroll_up(
-    rows: &mut Ring<Line>,
-    first: usize,
-    after: usize,
-    count: usize,
-) -> Result<(), AllocError>
+pub(crate) fn scroll_up(rows: &mut Ring<Line>, first: usize, after: usize, count: usize)
     requires order { first ≤ after }
     requires within { after ≤ length rows.old }
     requires fits { first + count ≤ after }
-    ensures { OnOk result
-        (rows.new
+    ensures { rows.new
         ≡ take first rows.old ++ rows_up count (take (after - first) (drop first rows.old))
-        ++ drop after rows.old) }
+        ++ drop after rows.old }
 {
     rotate_up(rows.as_mut_slice(), first, after, count);
-    clear_rows(rows, after - count, after)?;
-    Ok(())
+    clear_rows(rows, after - count, after);
 }
 
 // Moves the rows of a region down, and adds rows of plain blanks above.
-pub(crate) fn scroll_down(
-    rows: &mut Ring<Line>,
-    first: usize,
-    after: usize,
-    count: usize,
-) -> Result<(), AllocError>
+pub(crate) fn scroll_down(rows: &mut Ring<Line>, first: usize, after: usize, count: usize)
     requires order { first ≤ after }
     requires within { after ≤ length rows.old }
     requires fits { first + count ≤ after }
-    ensures { OnOk result
-        (rows.new
+    ensures { rows.new
         ≡ take first rows.old ++ rows_down count (take (after - first) (drop first rows.old))
-        ++ drop after rows.old) }
+        ++ drop after rows.old }
 {
     rotate_down(rows.as_mut_slice(), first, after, count);
-    clear_rows(rows, first, first + count)?;
-    Ok(())
+    clear_rows(rows, first, first + count);
 }
 
 // Sets the size of a line.

@@ -1,4 +1,4 @@
+pub mod DroppedLemmas
 pub mod DueLemmas
 pub mod LogLemmas
-pub mod TextPoolLemmas
 pub mod StoredLemmas

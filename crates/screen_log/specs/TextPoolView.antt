@@ -7,9 +7,9 @@ use Rattle.std.specs.declared.alloc.Global.{Global}
 abbrev pub pooled_bytes : List (String Global) → ℕ
 pooled_bytes texts = sum_by string_capacity texts
 
--- `bytes` bytes, at most 64 KB, in at most 1024 texts of at most 1 KB each
+-- `bytes` bytes, at most 64 KB, in at most 4096 texts of at most 1 KB each
 pub record AreCounted (texts : List (String Global)) (bytes : ℕ) : Type 0 where
   pub counted : pooled_bytes texts ≡ bytes
   pub bounded : bytes ≤ 65536
-  pub at_most : length texts ≤ 1024
+  pub at_most : length texts ≤ 4096
   pub small : All (λ t. string_capacity t ≤ 1024) texts

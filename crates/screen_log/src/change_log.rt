@@ -1,15 +1,16 @@
 //! `ChangeLog`: numbered changes, of which those are kept that may be due.
 ghost use Rattle.std.specs.Prelude.{IfOk, ◌≡◌, ◌⊎◌, ◌+◌, ◌-◌, ◌<◌, ◌≤◌, ◌^◌, ◌↔◌, ◌++◌, ◌∷◌, IsTrue, [], drop, length};
-ghost use Rattle.std.specs.Prelude.{map, replicate, take, vec_len, OnOk, OnErr};
+ghost use Rattle.std.specs.List.{All};
+ghost use Rattle.std.specs.Prelude.{map, take, vec_len, OnOk, OnErr};
 ghost use Rattle.std.specs.Option.{option_map};
 ghost use Rattle.std.specs.String.{string_bytes};
 ghost use Rattle.screen_change.specs.ValueOf.{value_of};
 ghost use Rattle.screen_log.specs.Log.{due, new_log};
 ghost use Rattle.screen_log.specs.LogSteps.{Forgotten, Logged, Resized, step_of_kept};
-ghost use Rattle.screen_log.specs.LogView.{nothing};
+ghost use Rattle.screen_log.specs.LogView.{OwnsNothing, owns_memory};
 
 use crate::text_pool::{MOST_POOLED, TextPool};
-use cell_base::{CursorShape, SequenceNo};
+use cell_base::{AttributeChange, CursorShape, SequenceNo};
 use screen_change::{Change, cloned_changes};
 use std::alloc::{AllocError, Global};
 use std::marker::Model;
@@ -21,7 +22,7 @@ use std::mem;
 /// for no memory.
 #[derive(Drop)]
 pub struct ChangeLog {
-    // The changes from `start` on are kept. The ones before it hold no memory.
+    // The changes from `start` on are kept. The ones before it own no memory.
     changes: Vec<Change>,
     start: usize,
     most: usize,
@@ -61,8 +62,8 @@ fn swap_blocks(prefix: &mut [Change], after: &mut [Change])
 // Swaps the changes of two lists of equal length.
 fn swap_changes(prefix: &mut [Change], after: &mut [Change])
     requires { length prefix.old ≡ length after.old }
-    ensures len { length prefix.new ≡ length prefix.old }
     ensures prefix { prefix.new ≡ after.old }
+    ensures after { after.new ≡ prefix.old }
 {
     let mut at = 0;
     while BLOCK <= prefix.len() - at {
@@ -72,48 +73,69 @@ fn swap_changes(prefix: &mut [Change], after: &mut [Change])
     prefix[at..].swap_with_slice(&mut after[at..]);
 }
 
-// Swaps the changes from `start` on with the first ones.
+// Swaps the changes from `start` on with the first ones. The ones before it own no memory.
 #[cold]
 #[inline(never)]
 fn move_to_start(changes: &mut [Change], start: usize)
     requires within { start ≤ length changes.old }
     requires short { length changes.old ≤ start + start }
+    requires dropped { All OwnsNothing (take start changes.old) }
     ensures len { length changes.new ≡ length changes.old }
     ensures prefix { take (length changes.old - start) changes.new ≡ drop start changes.old }
+    ensures dropped { All OwnsNothing (drop (length changes.old - start) changes.new) }
 {
     let (prefix, after) = changes.split_at_mut(start);
     let count = after.len();
     swap_changes(&mut prefix[..count], after);
 }
 
-// The change that replaces a dropped one: it holds no memory.
+// Whether a change owns memory: that of a text, a title or a link.
 #[inline(always)]
-fn nothing() -> Change
-    ensures { result ≡ nothing }
+fn owns_memory(change: &Change) -> bool
+    ensures { result ≡ owns_memory change.now }
 {
-    Change::CursorShape(CursorShape::Default)
+    match change {
+        Change::Attribute(AttributeChange::Hyperlink(link)) => link.is_some(),
+        Change::AllAttributes(attributes) => attributes.hyperlink().is_some(),
+        Change::Text(_) | Change::Title(_) => true,
+        _ => false,
+    }
 }
 
 // Makes room to keep the memory of a text that is logged, and of the texts among the kept changes: dropping them then
 // asks for no memory.
 #[inline(always)]
 fn reserve_for(pool: &mut TextPool, change: &Change, kept: usize) -> Result<(), AllocError>
+    requires { kept + 1 < 2 ^ 64 }
     ensures { pool.new ≡ pool.old }
 {
     if let Change::Text(_) = change {
-        pool.reserve(kept.saturating_add(1))?;
+        pool.reserve(kept + 1)?;
     }
     Ok(())
 }
 
-// Drops a change, and keeps the memory of a text.
+// A change that owns no memory.
 #[inline(always)]
-fn drop_change(change: Change, pool: &mut TextPool)
-    requires { pool.old ≤ MOST_POOLED }
-    ensures { pool.new ≤ MOST_POOLED }
+fn nothing() -> Change
+    ensures { OwnsNothing result }
 {
-    if let Change::Text(text) = change {
-        pool.put(text);
+    Change::CursorShape(CursorShape::Default)
+}
+
+// Drops the change in a slot, and keeps the memory of a text. A change that owns no memory stays where it is.
+#[inline(always)]
+fn drop_change(slot: &mut Change, pool: &mut TextPool)
+    requires { pool.old ≤ MOST_POOLED }
+    ensures dropped { OwnsNothing slot.new }
+    ensures pool { pool.new ≤ MOST_POOLED }
+{
+    if slot.is_text() {
+        if let Change::Text(text) = mem::replace(slot, nothing()) {
+            pool.put(text);
+        }
+    } else if owns_memory(slot) {
+        *slot = nothing();
     }
 }
 
@@ -122,15 +144,36 @@ fn drop_change(change: Change, pool: &mut TextPool)
 fn drop_in_place(changes: &mut [Change], from: usize, to: usize, pool: &mut TextPool)
     requires order { from ≤ to }
     requires within { to ≤ length changes.old }
-    requires dropped { take from changes.old ≡ replicate from nothing }
+    requires dropped { All OwnsNothing (take from changes.old) }
     requires pool { pool.old ≤ MOST_POOLED }
     ensures len { length changes.new ≡ length changes.old }
-    ensures dropped { take to changes.new ≡ replicate to nothing }
+    ensures dropped { All OwnsNothing (take to changes.new) }
     ensures rest { drop to changes.new ≡ drop to changes.old }
     ensures pool { pool.new ≤ MOST_POOLED }
 {
     for at in from..to {
-        drop_change(mem::replace(&mut changes[at], nothing()), pool);
+        drop_change(&mut changes[at], pool);
+    }
+}
+
+// Forgets a change that owns no memory: nothing is left to drop.
+#[inline(always)]
+fn forget(change: Change)
+    requires { OwnsNothing change }
+{
+    mem::forget(change);
+}
+
+// Shortens a list, of which the changes from `len` on own no memory, without a look at them.
+#[inline(always)]
+fn shorten(changes: &mut Vec<Change>, len: usize)
+    requires { All OwnsNothing (drop len changes.old.items) }
+    ensures { changes.new.items ≡ take len changes.old.items }
+{
+    while len < changes.len() {
+        if let Some(change) = changes.pop() {
+            forget(change);
+        }
     }
 }
 
@@ -140,12 +183,12 @@ fn drop_in_place(changes: &mut [Change], from: usize, to: usize, pool: &mut Text
 fn drop_before(changes: &mut Vec<Change>, start: &mut usize, position: usize, pool: &mut TextPool)
     requires order { start.old ≤ position }
     requires within { position ≤ vec_len changes.old }
-    requires dropped { take start.old changes.old.items ≡ replicate start.old nothing }
+    requires dropped { All OwnsNothing (take start.old changes.old.items) }
     requires pool { pool.old ≤ MOST_POOLED }
     ensures left { drop start.new changes.new.items ≡ drop position changes.old.items }
     ensures len { vec_len changes.new + position ≡ start.new + vec_len changes.old }
     ensures short { start.new + start.new ≤ vec_len changes.new }
-    ensures dropped { take start.new changes.new.items ≡ replicate start.new nothing }
+    ensures dropped { All OwnsNothing (take start.new changes.new.items) }
     ensures pool { pool.new ≤ MOST_POOLED }
 {
     drop_in_place(changes, *start, position, pool);
@@ -155,7 +198,7 @@ fn drop_before(changes: &mut Vec<Change>, start: &mut usize, position: usize, po
         return;
     }
     move_to_start(changes, position);
-    changes.truncate(left);
+    shorten(changes, left);
     *start = 0;
 }
 

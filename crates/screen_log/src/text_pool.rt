@@ -6,7 +6,7 @@ use std::alloc::{AllocError, Global};
 use std::marker::Model;
 
 // The most texts whose memory is kept, and the most bytes that are kept of one text.
-const MOST_TEXTS: usize = 1024;
+const MOST_TEXTS: usize = 4096;
 
 const MOST_BYTES: usize = 1024;
 

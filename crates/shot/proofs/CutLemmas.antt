@@ -9,10 +9,11 @@ use Rattle.recordings.specs.Order.{AreFrom}
 use Rattle.recordings.specs.Recordings.{Recording}
 use Rattle.shot.specs.Pictures.{picture}
 use Rattle.shot.specs.Play.{events_after, is_by, steps_of, until, view_at}
-use Rattle.shot.specs.Shots.{end_of, last_time, multiples, pictures, shots}
+use Rattle.shot.specs.Shots.{end_of, first_view, last_time, multiples, pictures, shots}
 use Rattle.shot.specs.declared.format.Format.{Format}
 use Rattle.terminal_table.specs.History.{Look}
-use Rattle.terminal_table.specs.Meaning.{meaning, new_view}
+use Rattle.terminal_steps.specs.declared.profile.Profile.{Profile}
+use Rattle.terminal_table.specs.Meaning.{after}
 
 by_test : {P : Type 0} (b : Bool) → (b ≡ true → P) → (b ≡ false → P) → P
 by_test {P} b is not_is = (elim b as (λ w. b ≡ w → P) [ true ↦ is | false ↦ not_is ]) refl
@@ -51,12 +52,12 @@ after_is time early (event ∷ events) from =
     rw is (ap (λ n. drop n (event ∷ events)) more ∙ after_is time event.time events from.1))
     (λ is. rw is (ap (λ es. event ∷ es) (sym (all_later time event.time events (leb-false event.time time is) from.1))))
 
-pub one_screen : (format : Format) (at : Option ℕ) (recording : Recording) → recording.fault ≡ None
-    → shots format at 0 recording
-    ≡ picture format (meaning program_width recording.width recording.height (steps_of (until (end_of at recording.events) recording.events) ++ Look ∷ [])).state.screen
+pub one_screen : (format : Format) (at : Option ℕ) (profile : Profile) (recording : Recording) → recording.fault ≡ None
+    → shots format at 0 profile recording
+    ≡ picture format (after program_width (first_view profile recording) (steps_of (until (end_of at recording.events) recording.events) ++ Look ∷ [])).state.screen
 unfolding shots view_at
-one_screen format at recording none =
+one_screen format at profile recording none =
     let last = end_of at recording.events in
-    ap (λ fault. pictures format (new_view recording.width recording.height) recording.events
+    ap (λ fault. pictures format (first_view profile recording) recording.events
     (if not (is_some fault) || nat_lt last (last_time recording.events) then multiples 0 last (last ∷ []) else multiples 0 (last_time recording.events) [])) none
-    ∙ append-nil (picture format (view_at (new_view recording.width recording.height) recording.events last).state.screen)
+    ∙ append-nil (picture format (view_at (first_view profile recording) recording.events last).state.screen)

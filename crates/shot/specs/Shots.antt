@@ -7,7 +7,11 @@ use Rattle.recordings.specs.Recordings.{Recording}
 use Rattle.shot.specs.Pictures.{picture}
 use Rattle.shot.specs.Play.{screens_at}
 use Rattle.shot.specs.declared.format.Format.{Format}
-use Rattle.terminal_table.specs.Meaning.{View, new_view}
+use Rattle.shot.specs.declared.options.Options.{Options}
+use Rattle.terminal_steps.specs.ProfileView.{modes_of}
+use Rattle.terminal_steps.specs.declared.profile.Profile.{Profile}
+use Rattle.terminal_steps.specs.declared.profile.Profile.TheVariants.{Plain, Xterm}
+use Rattle.terminal_table.specs.Meaning.{View, new_view_with}
 
 -- the time of the last event, or 0
 abbrev pub last_time : List recorded.Event → ℕ
@@ -46,9 +50,19 @@ times_of at step recording =
 abbrev pub pictures : Format → View → List recorded.Event → List ℕ → List ℕ
 pictures format view events times = flat_map (picture format) (screens_at view events times)
 
-unfoldable pub shots : Format → Option ℕ → ℕ → Recording → List ℕ
-shots format at step recording =
-    pictures format (new_view recording.width recording.height) recording.events (times_of at step recording)
+-- the view of a new terminal of a profile, of the recording's size
+abbrev pub first_view : Profile → Recording → View
+first_view profile recording = new_view_with (modes_of profile) recording.width recording.height
+
+unfoldable pub shots : Format → Option ℕ → ℕ → Profile → Recording → List ℕ
+shots format at step profile recording =
+    pictures format (first_view profile recording) recording.events (times_of at step recording)
+
+-- the profile that is given, or else that of the recording's TERM: plain for the project's own, and xterm for any other
+-- and where none is known
+abbrev pub profile_for : Option Profile → Bool → Profile
+profile_for (Some profile) has_own_term = profile
+profile_for None has_own_term = if has_own_term then Plain else Xterm
 
 -- a number of columns or rows from the command line, if it is from 1 to 4096, or else the recording's
 abbrev pub chosen : ℕ → Option ℕ → ℕ
@@ -59,3 +73,9 @@ chosen other (Some given) = if nat_lt 0 given && nat_le given 4096 then given el
 abbrev pub with_size : Option ℕ → Option ℕ → Recording → Recording
 with_size width height recording =
     record recording { width = chosen recording.width width; height = chosen recording.height height }
+
+-- the screens that the options ask for of a recording
+abbrev pub shots_for : Options → Recording → List ℕ
+shots_for options recording =
+    shots options.asked.format options.asked.at options.asked.step (profile_for options.profile recording.has_own_term)
+    (with_size options.width options.height recording)

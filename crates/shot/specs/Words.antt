@@ -10,6 +10,8 @@ use Rattle.shot.specs.declared.format.Format.TheVariants as form
 use Rattle.shot.specs.declared.options.BadWords.{BadWords}
 use Rattle.shot.specs.declared.options.BadWords.TheVariants.{Command, Seconds}
 use Rattle.shot.specs.declared.shots.Shots.{Shots}
+use Rattle.terminal_steps.specs.declared.profile.Profile.{Profile}
+use Rattle.terminal_steps.specs.declared.profile.Profile.TheVariants.{Plain, Xterm}
 
 -- the form of a name; `Text` for any other name
 unfoldable pub format_of : Text → Format
@@ -18,6 +20,11 @@ format_of name =
     else (if bytes_eq name (codes "html") then form.Html
     else (if bytes_eq name (codes "svg") then form.Svg
     else (if bytes_eq name (codes "json") then form.Json else form.Text)))
+
+-- the profile of a name, if it is one
+unfoldable pub profile_named : Text → Option Profile
+profile_named name =
+    if bytes_eq name (codes "plain") then Some Plain else (if bytes_eq name (codes "xterm") then Some Xterm else None)
 
 -- the option whose number of seconds is wrong, if this is why the words are refused
 abbrev pub option_of : BadWords → Option Text

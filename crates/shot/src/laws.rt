@@ -6,10 +6,11 @@ ghost use Rattle.recordings.specs.Order.{AreFrom};
 ghost use Rattle.recordings.specs.Recordings.{Recording};
 ghost use Rattle.shot.specs.Pictures.{picture};
 ghost use Rattle.shot.specs.Play.{events_after, is_by, steps_of, until};
-ghost use Rattle.shot.specs.Shots.{end_of, shots};
+ghost use Rattle.shot.specs.Shots.{end_of, first_view, shots};
 ghost use Rattle.shot.specs.declared.format.Format.{Format};
 ghost use Rattle.terminal_table.specs.History.{Look};
-ghost use Rattle.terminal_table.specs.Meaning.{meaning};
+ghost use Rattle.terminal_steps.specs.declared.profile.Profile.{Profile};
+ghost use Rattle.terminal_table.specs.Meaning.{after};
 
 /// The events of a recording up to a time are exactly those at that time or before it, and the rest are after it.
 pub fn events_are_cut_at_a_time()
@@ -20,9 +21,9 @@ pub fn events_are_cut_at_a_time()
 {}
 
 /// Without a step the program writes one screen of a recording without a wrong line: that of a new terminal of its size
-/// after the events up to the requested time, and a look.
+/// and of the profile after the events up to the requested time, and a look.
 pub fn one_screen_is_that_of_the_time()
-    ensures { (format : Format) (at : Option ℕ) (recording : Recording) → recording.fault ≡ None
-        → shots format at 0 recording ≡ picture format (meaning program_width recording.width recording.height
+    ensures { (format : Format) (at : Option ℕ) (profile : Profile) (recording : Recording) → recording.fault ≡ None
+        → shots format at 0 profile recording ≡ picture format (after program_width (first_view profile recording)
         (steps_of (until (end_of at recording.events) recording.events) ++ Look ∷ [])).state.screen }
 {}

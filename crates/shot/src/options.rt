@@ -1,7 +1,7 @@
 //! The options of a command line.
-ghost use Rattle.std.specs.Prelude.{◌≡◌, codes};
+ghost use Rattle.std.specs.Prelude.{◌≡◌, codes, option_and_then};
 ghost use Rattle.clap.specs.Words.{first_value, found_of};
-ghost use Rattle.shot.specs.Words.{asked_by, format_of, reading_of, seconds_of};
+ghost use Rattle.shot.specs.Words.{asked_by, format_of, profile_named, reading_of, seconds_of};
 
 use crate::format::Format;
 use crate::shots::Shots;
@@ -9,6 +9,7 @@ use clap::{Arg, ArgAction, ArgMatches, Command, Error, value_parser};
 use recordings::time_of;
 use std::alloc::{AllocError, Global};
 use std::convert::AsStr;
+use terminal::Profile;
 
 /// The options that a command line asks for.
 #[derive(Clone, Copy, Debug)]
@@ -19,6 +20,8 @@ pub struct Options<'a> {
     pub width: Option<u32>,
     /// Rows of the screen in place of those of the input, from 1 to 4096.
     pub height: Option<u32>,
+    /// The functions that the application's terminal has, in place of those that the input tells.
+    pub profile: Option<Profile>,
     /// The file that is read, or standard input.
     pub file: Option<&'a str>,
 }
@@ -33,6 +36,8 @@ pub enum BadWords {
 }
 
 const FORMATS: [&str; 5] = ["text", "ansi", "html", "svg", "json"];
+
+const PROFILES: [&str; 2] = ["plain", "xterm"];
 
 // An option with a value.
 fn option<'a>(alloc: Global, name: &'a str, value: &'a str, help: &'a str) -> Arg<'a> {
@@ -85,20 +90,33 @@ fn sized_command<'a>(alloc: Global, command: Command<'a>) -> Result<Command<'a>,
         "height",
         "Rows of the screen, 1 to 4096 [default: the recording's, or 24]",
     );
-    command.arg(width)?.arg(height)
+    command.arg(width)?.arg(height)?.arg(terminal_option(alloc))
+}
+
+fn terminal_option<'a>(alloc: Global) -> Arg<'a> {
+    option(
+        alloc,
+        "terminal",
+        "NAME",
+        "The terminal of the application [default: xterm, or plain for a recording with TERM=rilqamyn]",
+    )
+    .value_parser(PROFILES.as_slice())
+}
+
+// An option whose value is a number of seconds, which `seconds` reads.
+fn seconds_option<'a>(alloc: Global, name: &'a str, help: &'a str) -> Arg<'a> {
+    option(alloc, name, "SECONDS", help).allow_negative_numbers(true)
 }
 
 fn timed_command<'a>(alloc: Global, command: Command<'a>) -> Result<Command<'a>, AllocError> {
-    let at = option(
+    let at = seconds_option(
         alloc,
         "at",
-        "SECONDS",
         "The time of the screen in a recording [default: its end]",
     );
-    let step = option(
+    let step = seconds_option(
         alloc,
         "step",
-        "SECONDS",
         "Also write the screen at each multiple of this time before that",
     );
     command.arg(at)?.arg(step)
@@ -122,6 +140,25 @@ fn format_of(name: &str) -> Format
         "json" => Format::Json,
         _ => Format::Text,
     }
+}
+
+// The profile of a name, if it is one.
+#[tactic(auto, unfolding(crate::specs::Words::profile_named))]
+fn profile_named(name: &str) -> Option<Profile>
+    ensures { result ≡ profile_named name.now }
+{
+    match name {
+        "plain" => Some(Profile::Plain),
+        "xterm" => Some(Profile::Xterm),
+        _ => None,
+    }
+}
+
+// The profile that the matches name, if they name one.
+fn profile(matches: &ArgMatches<'_>) -> Option<Profile>
+    ensures { result ≡ option_and_then profile_named (first_value (found_of matches.now) (codes "terminal")) }
+{
+    profile_named(matches.get_str("terminal")?)
 }
 
 // The microseconds of an option's number of seconds, if the option is given.
@@ -166,6 +203,7 @@ pub fn read<'a, S: AsStr>(alloc: Global, words: &'a [S]) -> Result<Options<'a>, 
         asked: asked(&matches)?,
         width: matches.get_one::<u32>("width"),
         height: matches.get_one::<u32>("height"),
+        profile: profile(&matches),
         file: matches.get_str("FILE"),
     })
 }

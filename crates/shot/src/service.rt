@@ -3,7 +3,7 @@ ghost use Rattle.std.specs.Prelude.{◌≡◌, ◌≢◌, ◌⊎◌, ◌<◌, �
 ghost use Rattle.std.specs.Io.KnownBytes.{Appends, Keeps};
 ghost use Rattle.clap.specs.Words.{kind_of};
 ghost use Rattle.recordings.specs.Recordings.{recording_of};
-ghost use Rattle.shot.specs.Shots.{chosen, shots, with_size};
+ghost use Rattle.shot.specs.Shots.{chosen, profile_for, shots_for};
 ghost use Rattle.shot.specs.Words.{kind_in};
 
 use crate::error::ShotError;
@@ -15,7 +15,7 @@ use recordings::{BadLine, Recording, Size, read_recording};
 use std::alloc::Global;
 use std::io;
 use std::io::{Read, Write};
-use terminal::TerminalError;
+use terminal::{Profile, TerminalError};
 
 const FAULT: u8 = 1;
 
@@ -109,7 +109,7 @@ pub fn explain_words<T: Write, F: Write>(
             &[
                 "error: the value of '--",
                 *name,
-                " <SECONDS>' is no decimal number of seconds, or too large, or a step of none\n\n",
+                " <SECONDS>' is no decimal number of seconds from 0 on, or too large, or a step of none\n\n",
                 "For more information, try '--help'.\n",
             ],
         ),
@@ -128,6 +128,17 @@ fn chosen(other: usize, given: Option<u32>) -> usize
     }
 }
 
+// The profile `given`, or else that of a recording's TERM.
+fn profile_for(given: Option<Profile>, has_own_term: bool) -> Profile
+    ensures { result ≡ profile_for given has_own_term }
+{
+    match given {
+        Some(profile) => profile,
+        None if has_own_term => Profile::Plain,
+        None => Profile::Xterm,
+    }
+}
+
 const USUAL: Size = Size {
     width: 80,
     height: 24,
@@ -142,12 +153,12 @@ pub fn shoot<T: Write>(
     writer: &mut T,
 ) -> Result<Option<BadLine>, ShotError>
     ensures writes { OnOk result (Appends (T.contents writer.old) (T.contents writer.new)
-        (shots options.entry.asked.format options.entry.asked.at options.entry.asked.step
-        (with_size options.entry.width options.entry.height (recording_of 80 24 input.now)))) }
+        (shots_for options.entry (recording_of 80 24 input.now))) }
     ensures fault { IfOk result (λ fault. fault ≡ (recording_of 80 24 input.now).fault) }
 {
     let Recording {
         size,
+        has_own_term,
         events,
         fault,
     } = read_recording(alloc, USUAL, input)?;
@@ -157,10 +168,12 @@ pub fn shoot<T: Write>(
     };
     let recording = Recording {
         size,
+        has_own_term,
         events,
         fault,
     };
-    write_shots(alloc, &recording, options.asked, writer)?;
+    let profile = profile_for(options.profile, has_own_term);
+    write_shots(alloc, &recording, options.asked, profile, writer)?;
     Ok(fault)
 }
 
@@ -188,8 +201,7 @@ fn answer<T: Write, F: Write>(
     ensures quiet { result ≡ 0 → Keeps (F.contents faults.old) (F.contents faults.new) }
     ensures whole { result ≡ 0 → (recording_of 80 24 input.now).fault ≡ None }
     ensures shows { result ≡ 0 → Appends (T.contents writer.old) (T.contents writer.new)
-        (shots options.entry.asked.format options.entry.asked.at options.entry.asked.step
-        (with_size options.entry.width options.entry.height (recording_of 80 24 input.now))) }
+        (shots_for options.entry (recording_of 80 24 input.now)) }
 {
     match shoot(alloc, options, input, writer) {
         Ok(Some(bad)) => {
@@ -219,8 +231,7 @@ pub fn serve<R: Read, T: Write, F: Write>(
     ensures shows { result ≡ 0
         → IfSome (R.remaining reader.old)
         (λ input. Appends (T.contents writer.old) (T.contents writer.new)
-        (shots options.entry.asked.format options.entry.asked.at options.entry.asked.step
-        (with_size options.entry.width options.entry.height (recording_of 80 24 input)))) }
+        (shots_for options.entry (recording_of 80 24 input))) }
 {
     let mut input = Vec::new(alloc);
     if reader.read_to_end(&mut input).is_err() {

@@ -14,7 +14,7 @@ use crate::play::{Screen, write_screen};
 use recordings::{Event, Recording};
 use std::alloc::Global;
 use std::io::Write;
-use terminal::{ProgramWidth, Terminal};
+use terminal::{Profile, ProgramWidth, Terminal};
 
 // The time of the last event, or 0.
 fn last_time(events: &[Event]) -> u64
@@ -155,21 +155,28 @@ fn write_by<T: Write>(
     Ok(())
 }
 
-/// Plays a recording to a new terminal of its size, and writes the screen at the requested time, as it is after all
-/// events at that time or before it; and before that the screens at each multiple of the step below that time. The
-/// terminal takes a look for each screen, in order. Of a recording with a line that is wrong only the screens are
-/// written that no later event could change.
+/// Plays a recording to a new terminal of its size and of a profile, and writes the screen at the requested time, as it
+/// is after all events at that time or before it; and before that the screens at each multiple of the step below that
+/// time. The terminal takes a look for each screen, in order. Of a recording with a line that is wrong only the screens
+/// are written that no later event could change.
 pub fn write_shots<T: Write>(
     alloc: Global,
     recording: &Recording,
     asked: Shots,
+    profile: Profile,
     writer: &mut T,
 ) -> Result<(), ShotError>
     ensures { OnOk result (Appends (T.contents writer.old) (T.contents writer.new)
-        (shots asked.format asked.at asked.step (recording_value recording.now))) }
+        (shots asked.format asked.at asked.step profile (recording_value recording.now))) }
 {
     let size = recording.size;
-    let mut terminal = Terminal::new(alloc, size.width, size.height, ProgramWidth)?;
+    let mut terminal = Terminal::with_profile(
+        alloc,
+        size.width,
+        size.height,
+        ProgramWidth,
+        profile,
+    )?;
     write_by(alloc, &mut terminal, recording, asked, writer)?;
     Ok(())
 }

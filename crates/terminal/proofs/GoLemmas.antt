@@ -4,6 +4,7 @@ use Rattle.std.specs.Prelude.{◌⊎◌, ◌==◌, if◌then◌else◌}
 use Rattle.std.specs.String.{string_bytes}
 use Rattle.std.proofs.lemmas.Grind.{flat_map-append}
 use Rattle.std.proofs.lemmas.List.Sums.{fold-append}
+use Rattle.std.proofs.lemmas.Str.{IsUtf8-string_bytes}
 use Rattle.screen_log.specs.LogSteps.{LogStep, Logged, Sized, step_of_kept}
 use Rattle.escape_framing.specs.Framed.{IsReached}
 use Rattle.escape_framing.specs.Cut.{newly_decided}
@@ -60,7 +61,7 @@ pieced bytes f view = record {
 -- ---- a terminal by its parts
 
 abbrev pub with_parts : {W : Type 0} → TerminalState W → Held → Terminal W
-with_parts s unfinished = record { surface = s.surface; saved = s.saved; replies = s.replies.items; run = string_bytes s.held; unfinished = unfinished; is_failed = false }
+with_parts s unfinished = record { surface = s.surface; saved = s.saved; replies = s.replies.items; modes = s.modes; run = string_bytes s.held; unfinished = unfinished; is_failed = false }
 
 module _ {W : Type 0} (width_of : W → List ℕ → ℕ) where
   abbrev of : Terminal W → List ℕ → ℕ
@@ -73,11 +74,12 @@ module _ {W : Type 0} (width_of : W → List ℕ → ℕ) where
   some_view : (s : TerminalState W) (u : Held) → (reached : IsReached u) → (view : View) × StandsAt (with_parts s u) view
   some_view s u reached = (record { state = (view_of s).state; stream = reached.0; held = (view_of s).held }, record { state = refl; run = refl; unfinished = reached.1 })
 
-  pub stands_somewhere : (s : TerminalState W) (u : Held) (now : Terminal W) → IsReached u → IsReady s → with_parts s u ≡ now → (view : View) × StandsAt now view × IsView view
+  pub stands_somewhere : (s : TerminalState W) (u : Held) (now : Terminal W) → IsReached u → IsReady width_of s → with_parts s u ≡ now → (view : View) × StandsAt now view × IsView (of now) view
   unfolding some_view
   stands_somewhere s u now reached ready same =
       let some = some_view s u reached in
-      (some.0, subst (λ t. StandsAt t some.0) same some.1, record { lawful = record { lawful = ready.shown.lawful; whole = ready.shown.whole }; plain = ready.plain })
+      subst (λ (t : Terminal W). (view : View) × StandsAt t view × IsView (of t) view) same
+      (some.0, some.1, record { lawful = ready.lawful; plain = record { utf8 = IsUtf8-string_bytes s.held; printed = ready.plain } })
 
   pub went : (s r : TerminalState W) (u w : Held) (history : History) (events : View → List Event)
       → IsReached u
@@ -146,7 +148,7 @@ module _ {W : Type 0} (width_of : W → List ℕ → ℕ) where
   piece_ends : (u w : Held) (bytes : List ℕ) → ((stream : List ℕ) → u ≡ held_of stream → w ≡ held_of (stream ++ bytes)) → (view : View) → u ≡ held_of view.stream → w ≡ held_of (view.stream ++ table.pieces (Piece bytes ∷ []))
   piece_ends u w bytes ends view e = ends view.stream e ∙ ap (λ xs. held_of (view.stream ++ xs)) (sym (nothing_after bytes))
 
-  pub fed : (s r : TerminalState W) (u w : Held) (now : Terminal W) (bytes : List ℕ) → IsReached u → IsReady s → with_parts s u ≡ now
+  pub fed : (s r : TerminalState W) (u w : Held) (now : Terminal W) (bytes : List ℕ) → IsReached u → IsReady width_of s → with_parts s u ≡ now
       → ((stream : List ℕ) → u ≡ held_of stream → Leads width_of s r (items stream bytes))
       → ((stream : List ℕ) → u ≡ held_of stream → w ≡ held_of (stream ++ bytes))
       → GoesBy width_of now (with_parts r w) (Piece bytes ∷ [])
@@ -155,14 +157,14 @@ module _ {W : Type 0} (width_of : W → List ℕ → ℕ) where
       (went s r u w (Piece bytes ∷ []) (λ view. item_events (items view.stream bytes)) reached (pieced bytes (width_of s.surface.grid.widths)) (piece_ends u w bytes ends)
       (λ view e. takes view.stream e ready (events_are view.stream bytes)))
 
-  pub fed_ready : (s r : TerminalState W) (u : Held) (bytes : List ℕ) → IsReached u → IsReady s
-      → ((stream : List ℕ) → u ≡ held_of stream → Leads width_of s r (items stream bytes)) → IsReady r
+  pub fed_ready : (s r : TerminalState W) (u : Held) (bytes : List ℕ) → IsReached u → IsReady width_of s
+      → ((stream : List ℕ) → u ≡ held_of stream → Leads width_of s r (items stream bytes)) → IsReady width_of r
   fed_ready s r u bytes reached ready takes = (takes reached.0 reached.1 ready (events_are reached.0 bytes)).ready
 
   pub fed_reached : (u w : Held) (bytes : List ℕ) → IsReached u → ((stream : List ℕ) → u ≡ held_of stream → w ≡ held_of (stream ++ bytes)) → IsReached w
   fed_reached u w bytes reached ends = (reached.0 ++ bytes, ends reached.0 reached.1)
 
-  pub fed_past : (s : TerminalState W) (u : Held) (now : Terminal W) (bytes : List ℕ) → IsReady s → with_parts s u ≡ now
+  pub fed_past : (s : TerminalState W) (u : Held) (now : Terminal W) (bytes : List ℕ) → IsReady width_of s → with_parts s u ≡ now
       → ((stream : List ℕ) → u ≡ held_of stream → steps.NeedsNumber width_of s (item_events (items stream bytes))) → NeedsNumber width_of now (Piece bytes ∷ [])
   fed_past s u now bytes ready same numbers =
       subst (λ t. NeedsNumber width_of t (Piece bytes ∷ [])) same
@@ -206,8 +208,8 @@ module _ {W : Type 0} (width_of : W → List ℕ → ℕ) where
             (subst (λ (v : View). TakesMemory f (fold (event_done f) v es) (log_of (events_logged f v es)) (item_event some.item) failed) same some.takes)));
       }
 
-  pub fed_memory : (s : TerminalState W) (u : Held) (now : Terminal W) (bytes : List ℕ) (failed : Bool) → IsReady s → with_parts s u ≡ now
-      → ((stream : List ℕ) → u ≡ held_of stream → IsReady s → AreEvents (item_events (items stream bytes))
+  pub fed_memory : (s : TerminalState W) (u : Held) (now : Terminal W) (bytes : List ℕ) (failed : Bool) → IsReady width_of s → with_parts s u ≡ now
+      → ((stream : List ℕ) → u ≡ held_of stream → IsReady width_of s → AreEvents (item_events (items stream bytes))
       → ParserNeedsMemory (width_of s.surface.grid.widths) (view_of s) s.surface.log stream bytes ⊎ SomeNeedsMemory (width_of s.surface.grid.widths) (view_of s) s.surface.log (items stream bytes) failed)
       → (view : View) → StandsAt now view → ParserNeedsMemory (of now) view now.surface.log view.stream bytes ⊎ SomeNeedsMemory (of now) view now.surface.log (items view.stream bytes) failed
   fed_memory s u now bytes failed ready same takes =
@@ -222,8 +224,8 @@ module _ {W : Type 0} (width_of : W → List ℕ → ℕ) where
       in_view view st (inl early) = inl (early_at f (view_of s) view s.surface.log view.stream bytes (same_view s u view st) early)
       in_view view st (inr some) = inr (some_at f (view_of s) view s.surface.log (items view.stream bytes) failed (same_view s u view st) some)
 
-  pub fed_sound : (s : TerminalState W) (u : Held) (bytes : List ℕ) → IsReached u → IsReady s
-      → ((stream : List ℕ) → u ≡ held_of stream → IsReady s → AreEvents (item_events (items stream bytes)) → ⊥) → ⊥
+  pub fed_sound : (s : TerminalState W) (u : Held) (bytes : List ℕ) → IsReached u → IsReady width_of s
+      → ((stream : List ℕ) → u ≡ held_of stream → IsReady width_of s → AreEvents (item_events (items stream bytes)) → ⊥) → ⊥
   fed_sound s u bytes reached ready never = never reached.0 reached.1 ready (events_are reached.0 bytes)
 
   -- ---- histories in turn

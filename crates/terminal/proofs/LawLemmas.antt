@@ -1,7 +1,7 @@
 -- Histories of terminals: the states and logs to which they lead.
-use Rattle.std.proofs.Common.{◌≡◌, ℕ, List, [], ◌∷◌, ◌++◌, length, fold, inl, inr, sym, ap, ◌∙◌}
+use Rattle.std.proofs.Common.{◌≡◌, ℕ, List, [], ◌∷◌, ◌++◌, length, fold, inl, inr, sym, ap, subst, ◌∙◌}
 use Rattle.std.specs.List.{AllByRecursion}
-use Rattle.std.specs.Prelude.{◌==◌, ◌⊎◌, if◌then◌else◌}
+use Rattle.std.specs.Prelude.{◌==◌, ◌⊎◌, Option, if◌then◌else◌}
 use Rattle.screen_log.specs.LogSteps.{Logged, step_of_kept}
 use Rattle.escape_framing.specs.Held.{held_of}
 use Rattle.escape_stream.specs.Items.{items}
@@ -20,6 +20,8 @@ use Rattle.terminal_table.specs.Changes.{run_change}
 use Rattle.terminal_table.specs.History.{History, Look, Piece}
 use Rattle.terminal_table.specs.Logged.{logged}
 use Rattle.terminal_table.specs.Meaning.{View, after}
+use Rattle.terminal_table.specs.Modes.{Modes}
+use Rattle.terminal_table.specs.State.{State}
 use Rattle.terminal_table.specs.Steps.{run_step}
 use Rattle.terminal_table.proofs.JoinLemmas.{nothing_after}
 
@@ -72,10 +74,11 @@ module _ {W : Type 0} (width_of : W → List ℕ → ℕ) where
       record { run = (g.stands view st).run ∙ later.run; unfinished = (g.stands view st).unfinished ∙ later.stream }
 
   pub asks_nothing : (before now : Terminal W) (view : View) (bytes : List ℕ) → StandsAt before view → before.run ≡ []
-      → AllByRecursion AsksNothing (items view.stream bytes) → NeedsMemory width_of before bytes now → BytesTakeMemory view.stream bytes
+      → AllByRecursion (AsksNothing before.modes) (items view.stream bytes) → NeedsMemory width_of before bytes now → BytesTakeMemory view.stream bytes
   asks_nothing before now view bytes st none all needs = taken (needs view st)
     where
       taken : ParserNeedsMemory (width_of before.surface.grid.widths) view before.surface.log view.stream bytes ⊎ SomeNeedsMemory (width_of before.surface.grid.widths) view before.surface.log (items view.stream bytes) now.surface.is_failed
           → BytesTakeMemory view.stream bytes
       taken (inl taking) = bytes_take (width_of before.surface.grid.widths) view before.surface.log view.stream bytes taking
-      taken (inr some) = absurd (quiet_items (width_of before.surface.grid.widths) view before.surface.log (items view.stream bytes) now.surface.is_failed (sym st.run ∙ none) all some)
+      taken (inr some) = absurd (quiet_items (width_of before.surface.grid.widths) view before.surface.log (items view.stream bytes) now.surface.is_failed (sym st.run ∙ none)
+          (subst (λ (modes : Option Modes). AllByRecursion (AsksNothing modes) (items view.stream bytes)) (ap (λ (s : State). s.modes) st.state) all) some)

@@ -4,6 +4,7 @@ pub mod FlushLemmas
 pub mod GoLemmas
 pub mod GroupLemmas
 pub mod LawLemmas
+pub mod LiveLemmas
 pub mod MemoryLemmas
 pub mod PlayLemmas
 pub mod PrintLemmas

@@ -8,13 +8,15 @@ use Rattle.escape_stream.specs.Items.{Item, Text, Single, items, items_of}
 use Rattle.escape_stream.specs.StreamAction.{StreamAction, is_print, print_string, printed}
 use Rattle.terminal.specs.Refusals.{FeedTakesMemory}
 use Rattle.terminal_steps.specs.Items.{ParserNeedsMemory, SomeNeedsMemory, item_event, item_events, log_after_items}
-use Rattle.terminal_steps.specs.Memory.{IsChangeRefused, TakesMemory, TakesOwnMemory, number_settled}
-use Rattle.terminal_table.specs.Changes.{changes_of, run_change}
-use Rattle.terminal_table.specs.Functions.{ControlFunction, function_of}
+use Rattle.xterm_steps.specs.Additions.{IsChangeRefused}
+use Rattle.terminal_steps.specs.Memory.{TakesMemory, TakesOwnMemory, number_settled}
+use Rattle.terminal_table.specs.Changes.{run_change}
 use Rattle.terminal_table.specs.History.{Act}
 use Rattle.terminal_table.specs.Logged.{event_logged, events_logged, run_logged}
 use Rattle.terminal_table.specs.Meaning.{View, settled, event_done}
-use Rattle.terminal_table.specs.Steps.{run_step, step_of}
+use Rattle.terminal_table.specs.Request.{Request, Table, Xterm, Sets}
+use Rattle.terminal_table.specs.Requests.{acted, acted_changes, request_changes, request_done, request_of}
+use Rattle.terminal_table.specs.Steps.{run_step}
 use Rattle.terminal_viewers.specs.Updates.{Standing}
 use Rattle.terminal_viewers.specs.Viewers.{AreAlike, AnswersAs}
 use Rattle.terminal_viewers.proofs.DueLemmas.{AreChanges}
@@ -22,7 +24,7 @@ use Rattle.terminal_viewers.proofs.KeptLemmas.{with_replies}
 use Rattle.terminal_viewers.proofs.ShowLemmas.{action_changes, run_changes}
 
 same_as : (a b : View) → AreAlike a b → a ≡ with_replies a.state.replies b
-same_as a b h = λ i. record { state = record { screen = h.screen i; saved = h.saved i; replies = a.state.replies }; stream = h.stream i; held = h.held i }
+same_as a b h = λ i. record { state = record { screen = h.screen i; saved = h.saved i; replies = a.state.replies; modes = h.modes i }; stream = h.stream i; held = h.held i }
 
 -- after the same changes, logs whose numbers were equal have equal numbers
 steps_number : (steps : List LogStep) → AreChanges steps → (l m : Sized) → l.log.number ≡ m.log.number → (fold step_of_kept l steps).log.number ≡ (fold step_of_kept m steps).log.number
@@ -40,37 +42,41 @@ module _ (f : List ℕ → ℕ) where
       by_test : (t : Bool) → AreAlike
           (record b { state = if t then (with_replies a.state.replies b).state else run_step f b.held (with_replies a.state.replies b).state; held = [] })
           (record b { state = if t then b.state else run_step f b.held b.state; held = [] })
-      by_test true = record { screen = refl; saved = refl; stream = refl; held = refl }
-      by_test false = record { screen = refl; saved = refl; stream = refl; held = refl }
+      by_test true = record { screen = refl; saved = refl; modes = refl; stream = refl; held = refl }
+      by_test false = record { screen = refl; saved = refl; modes = refl; stream = refl; held = refl }
 
-  stepped_alike : (request : Option ControlFunction) (a b : View) → AreAlike a b → AreAlike (record a { state = step_of request a.state }) (record b { state = step_of request b.state })
-  stepped_alike request a b h =
-      subst (λ x. AreAlike (record x { state = step_of request x.state }) (record b { state = step_of request b.state })) (sym (same_as a b h)) (by_request request)
+  acted_alike : (action : StreamAction) (a b : View) → AreAlike a b → AreAlike (record a { state = acted action a.state }) (record b { state = acted action b.state })
+  acted_alike action a b h =
+      subst (λ x. AreAlike (record x { state = acted action x.state }) (record b { state = acted action b.state })) (sym (same_as a b h)) (by_request (request_of b.state.modes b.state.screen action))
     where
-      by_request : (request : Option ControlFunction) → AreAlike (record b { state = step_of request (with_replies a.state.replies b).state }) (record b { state = step_of request b.state })
-      by_request None = record { screen = refl; saved = refl; stream = refl; held = refl }
-      by_request (Some function) = record { screen = refl; saved = refl; stream = refl; held = refl }
+      by_request : (request : Option Request) → AreAlike (record b { state = request_done request (with_replies a.state.replies b).state }) (record b { state = request_done request b.state })
+      by_request None = record { screen = refl; saved = refl; modes = refl; stream = refl; held = refl }
+      by_request (Some (Table function)) = record { screen = refl; saved = refl; modes = refl; stream = refl; held = refl }
+      by_request (Some (Xterm function)) = record { screen = refl; saved = refl; modes = refl; stream = refl; held = refl }
+      by_request (Some (Sets modes function)) = record { screen = refl; saved = refl; modes = refl; stream = refl; held = refl }
 
-  changes_alike : (request : Option ControlFunction) (a b : View) → AreAlike a b → changes_of request a.state ≡ changes_of request b.state
-  changes_alike request a b h = ap (λ x. changes_of request x.state) (same_as a b h) ∙ by_request request
+  changes_alike : (action : StreamAction) (a b : View) → AreAlike a b → acted_changes action a.state ≡ acted_changes action b.state
+  changes_alike action a b h = ap (λ x. acted_changes action x.state) (same_as a b h) ∙ by_request (request_of b.state.modes b.state.screen action)
     where
-      by_request : (request : Option ControlFunction) → changes_of request (with_replies a.state.replies b).state ≡ changes_of request b.state
+      by_request : (request : Option Request) → request_changes request (with_replies a.state.replies b).state ≡ request_changes request b.state
       by_request None = refl
-      by_request (Some function) = refl
+      by_request (Some (Table function)) = refl
+      by_request (Some (Xterm function)) = refl
+      by_request (Some (Sets modes function)) = refl
 
   done_alike : (a b : View) (action : StreamAction) → AreAlike a b → AreAlike (event_done f a (Act action)) (event_done f b (Act action))
   done_alike a b action h = by_test (is_print action) refl
     where
       by_test : (t : Bool) → is_print action ≡ t → AreAlike (event_done f a (Act action)) (event_done f b (Act action))
-      by_test true e = rw e (record { screen = h.screen; saved = h.saved; stream = h.stream; held = ap (λ held. held ++ printed action) h.held })
-      by_test false e = rw e (stepped_alike (function_of action) (settled f a) (settled f b) (settled_alike a b h))
+      by_test true e = rw e (record { screen = h.screen; saved = h.saved; modes = h.modes; stream = h.stream; held = ap (λ held. held ++ printed action) h.held })
+      by_test false e = rw e (acted_alike action (settled f a) (settled f b) (settled_alike a b h))
 
   run_alike : (a b : View) → AreAlike a b → run_logged a ≡ run_logged b
   run_alike a b h = ap (λ (held : List ℕ). if length held == 0 then [] else Logged (run_change held) ∷ []) h.held
 
   logs_alike : (a b : View) (action : StreamAction) → AreAlike a b → event_logged f a (Act action) ≡ event_logged f b (Act action)
   logs_alike a b action h = λ i.
-      if is_print action then [] else run_alike a b h i ++ map Logged (changes_alike (function_of action) (settled f a) (settled f b) (settled_alike a b h) i)
+      if is_print action then [] else run_alike a b h i ++ map Logged (changes_alike action (settled f a) (settled f b) (settled_alike a b h) i)
 
   abbrev done : StreamAction → View → View
   done action v = event_done f v (Act action)
@@ -87,8 +93,9 @@ module _ (f : List ℕ → ℕ) where
 
   takes_alike : (a b : View) (l m : Sized) (action : StreamAction) (failed : Bool) → AreAlike a b → l.log.number ≡ m.log.number → TakesMemory f a l (Act action) failed → TakesMemory f b m (Act action) failed
   takes_alike a b l m action failed h e takes =
+      let s = settled_alike a b h in
       subst (λ (T : Type 0). T)
-      (λ i. (is_print action ≡ true) ⊎ TakesOwnMemory (function_of action) (settled_number a b l m h e i) ⊎ IsChangeRefused (logs_alike a b action h i) (e i) failed) takes
+      (λ i. (is_print action ≡ true) ⊎ TakesOwnMemory (request_of (s.modes i) (s.screen i) action) (settled_number a b l m h e i) ⊎ IsChangeRefused (logs_alike a b action h i) (e i) failed) takes
 
   -- ---- items
 

@@ -1,19 +1,20 @@
 -- An input that is read and fed in chunks, to a terminal that forgets its changes and drops its replies.
 use Rattle.std.proofs.Common.{◌≡◌, ℕ, ◌^◌, ◌<◌, ◌≤◌, inl, inr, false, List, [], ◌∷◌, ◌++◌, length, refl, sym, ap, subst, ◌∙◌, arith, Option, Some, None, append_assoc, append-nil}
 use Rattle.std.specs.Prelude.{IfSome}
-use Rattle.std.specs.Io.KnownBytes.{Consumes, IsAtEnd}
-use Rattle.cell_base.specs.Screen.{Screen, screen_text}
+use Rattle.std.specs.Io.KnownBytes.{Appends, Consumes, IsAtEnd}
+use Rattle.cell_base.specs.Screen.{screen_text}
 use Rattle.cell_surface.specs.Surface.{number_of}
-use Rattle.terminal.specs.Fed.{AnswersAt, AnswersNow, IsFed, FeedsOn, Feeds, FeedingNeedsNumber}
-use Rattle.terminal.specs.Written.{IsAt, Lightens}
-use Rattle.terminal.specs.Shown.{rows_shown}
+use Rattle.terminal.specs.Fed.{AnswersAt, AnswersNow, IsFed, FeedsOn, Feeds, FeedingNeedsNumber, Reads, ShowsRows, ShowsSomeRows, rows_after}
+use Rattle.terminal.specs.Written.{IsAt, IsCounted, Lightens}
+use Rattle.terminal.specs.Shown.{AppendsPrefix, rows_shown}
 use Rattle.terminal.specs.Headline.{GoesBy}
-use Rattle.terminal.specs.Refusals.{HasNumbers, IsRefusedMemory, NeedsMemory, NeedsNumber, ReadingIsRefusedMemory, one_look}
+use Rattle.terminal.specs.Refusals.{HasNumbers, IsRefusedMemory, NeedsMemory, NeedsNumber, ReadingIsRefusedMemory, ReadingNeedsNumber, one_look}
 use Rattle.terminal.specs.Terminal.{Terminal, state_in}
+use Rattle.terminal.proofs.AppendLemmas.{keeps_same, nothing_appended}
 use Rattle.terminal.proofs.AnswerLemmas.{chunks_join, number_rises, answers_first, answers_on, answers_at_rest, answers_later, answers_lighter, number_there, needs_there, fits_there, takes_there, quiet_look}
-use Rattle.terminal_table.specs.History.{History, Piece, Look, Forget}
+use Rattle.terminal_table.specs.History.{History, Piece, Look}
 use Rattle.terminal_table.specs.Logged.{log_of}
-use Rattle.terminal_table.specs.Meaning.{meaning}
+use Rattle.terminal_table.specs.State.{State}
 use Rattle.terminal_viewers.specs.Updates.{Standing, new_standing, standing_after}
 use Rattle.terminal_viewers.specs.Viewers.{AreFed}
 use Rattle.terminal_viewers.proofs.ChunkLemmas.{standings_join}
@@ -116,66 +117,88 @@ module _ {W : Type 0} (width_of : W → List ℕ → ℕ) where
   all_read (Some input) (Some rest) None t now h c e = absurd c
   all_read (Some input) (Some rest) (Some next) t now h c e = ap Some e
 
-  -- ---- a new terminal that is fed all of an input, and settles
+  -- ---- a terminal that is fed all of an input, and settles
+
+  joined : (t : Terminal W) (start : Standing) (input : List ℕ) → standing_after (of t) (standing_after (of t) start (Piece input ∷ [])) (Look ∷ []) ≡ standing_after (of t) start (one_look input)
+  joined t start input = sym (standings_join (of t) start (Piece input ∷ []) (Look ∷ []))
+
+  -- after the look at the end, with its changes forgotten and its replies dropped, it answers as one that keeps all
+  pub reads_input : (input : Option (List ℕ)) (t fed looked now : Terminal W) (number : ℕ) → Feeds width_of input t fed → GoesBy width_of fed looked (Look ∷ []) → number ≡ number_of looked.surface → Lightens width_of looked now number
+      → Reads width_of one_look t input now
+  reads_input None t fed looked now number h g n l = tt
+  reads_input (Some x) t fed looked now number h g n l = λ start at counted.
+      let w = t.surface.grid.widths in
+      let whole = standing_after (of t) start (one_look x) in
+      let a = subst (AnswersNow looked) (joined t start x) (goes_on w fed looked (standing_after (of t) start (Piece x ∷ [])) (Look ∷ []) tt h.widths (h.answers start at counted) g) in
+      let there = n ∙ number_there width_of w whole.log.log.number looked whole a in
+      subst (λ m. AnswersAt m now whole) there (answers_lighter width_of w whole.log.log.number number looked now whole (omega (arith, there)) (g.widths ∙ h.widths) a l)
+
+  -- it shows the screen to which the input leads
+  rows_read : (t now : Terminal W) (x : List ℕ) (start : Standing) → IsAt t start → IsCounted start → Reads width_of one_look t (Some x) now → screen_text (state_in now).screen ≡ rows_after (of t) start x
+  rows_read t now x start at counted r =
+      let a = r start at counted in
+      ap (λ (s : State). screen_text s.screen) a.at.stands.state ∙ ap screen_text a.answers.views.screen
+
+  pub rows_shown_after : (input old new : Option (List ℕ)) (t now : Terminal W) (bytes : List ℕ) → Reads width_of one_look t input now → bytes ≡ screen_text (state_in now).screen → Appends old new bytes → ShowsRows width_of t input old new
+  rows_shown_after None old new t now bytes r e a = tt
+  rows_shown_after (Some x) old new t now bytes r e a = λ start at counted. subst (Appends old new) (e ∙ rows_read t now x start at counted r) a
+
+  pub some_rows_after : (input old new : Option (List ℕ)) (t now : Terminal W) (bytes : List ℕ) → Reads width_of one_look t input now → bytes ≡ screen_text (state_in now).screen → AppendsPrefix old new bytes → ShowsSomeRows width_of t input old new
+  some_rows_after None old new t now bytes r e a = tt
+  some_rows_after (Some x) old new t now bytes r e a = λ start at counted. subst (AppendsPrefix old new) (e ∙ rows_read t now x start at counted r) a
+
+  pub no_rows : (input old : Option (List ℕ)) (t : Terminal W) → ShowsSomeRows width_of t input old old
+  no_rows None old t = tt
+  no_rows (Some x) old t = λ start at counted. record { written = []; remaining = rows_after (of t) start x; whole = refl; appends = nothing_appended old old (keeps_same old) }
+
+  -- ---- the cause of a refused number
+
+  pub number_at_look : (input : Option (List ℕ)) (t : Terminal W) → FeedingNeedsNumber width_of input t → ReadingNeedsNumber width_of one_look t input
+  number_at_look None t n = tt
+  number_at_look (Some x) t n = λ start at counted.
+      let there = n start at counted in
+      let rises = number_rises (of t) (standing_after (of t) start (Piece x ∷ [])) (Look ∷ []) in
+      subst (λ (y : Standing). 2 ^ 64 ≤ y.log.log.number) (joined t start x) (omega arith)
+
+  pub number_of_look : (input : Option (List ℕ)) (t fed : Terminal W) → Feeds width_of input t fed → NeedsNumber width_of fed (Look ∷ []) → ReadingNeedsNumber width_of one_look t input
+  number_of_look None t fed h n = tt
+  number_of_look (Some x) t fed h n = λ start at counted.
+      let whole = standing_after (of t) start (Piece x ∷ []) in
+      subst (λ (y : Standing). 2 ^ 64 ≤ y.log.log.number) (joined t start x) (needs_there width_of t.surface.grid.widths whole.log.log.number fed whole (Look ∷ []) tt h.widths (h.answers start at counted) n)
+
+  -- ---- the cause of refused memory
+
+  -- memory may be refused where all of the input was fed and there are numbers for the look
+  pub fits_look : (input left : Option (List ℕ)) (t fed : Terminal W) → Feeds width_of input t fed → IfSome input (λ x. left ≡ Some []) → HasNumbers width_of fed (Look ∷ []) → ReadingIsRefusedMemory width_of one_look t input left
+  fits_look None left t fed h all n = tt
+  fits_look (Some x) left t fed h all n = λ start at counted.
+      let whole = standing_after (of t) start (Piece x ∷ []) in
+      record {
+        part = record { read = x; rest = []; whole = sym (append-nil x); remaining = all };
+        why = inr (subst (λ (y : Standing). y.log.log.number < 2 ^ 64) (joined t start x)
+            (fits_there width_of t.surface.grid.widths whole.log.log.number fed whole (Look ∷ []) tt h.widths (h.answers start at counted) n));
+      }
+
+  -- ---- a new terminal
 
   module _ (w : W) (width height : ℕ) (new : Terminal W) (at : IsAt new (new_standing width height)) (e : new.surface.grid.widths ≡ w) where
-    -- after the look at the end, with its changes forgotten, the terminal shows the screen to which the input leads
-    shows : (input : List ℕ) (fed looked now : Terminal W) (number : ℕ) → IsFed width_of input new fed → GoesBy width_of fed looked (Look ∷ []) → GoesBy width_of looked now (Forget number ∷ [])
-        → (state_in now).screen ≡ (meaning (width_of w) width height (Piece input ∷ Look ∷ [])).state.screen
-    shows input fed looked now number h g forget =
-        let start = new_standing width height in
-        let whole = standing_after (of new) start (Piece input ∷ []) in
-        let a = goes_on new.surface.grid.widths fed looked whole (Look ∷ []) tt h.widths (h.answers start at (omega arith)) g in
-        ap (λ s. s.screen) (forget.stands a.kept.view a.at.stands).state ∙ a.answers.views.screen ∙ ap (λ (x : Standing). x.view.state.screen) (sym (standings_join (of new) start (Piece input ∷ []) (Look ∷ [])))
-        ∙ ap (λ v. (meaning (width_of v) width height (Piece input ∷ Look ∷ [])).state.screen) e
+    pub new_rows : (input old now : Option (List ℕ)) → ShowsRows width_of new input old now → IfSome input (λ x. Appends old now (rows_shown (width_of w) width height x))
+    new_rows None old now s = tt
+    new_rows (Some x) old now s = subst (λ (y : W). Appends old now (rows_shown (width_of y) width height x)) e (s (new_standing width height) at (omega arith))
 
-    pub shows_input : (input : Option (List ℕ)) (fed looked now : Terminal W) (number : ℕ) → Feeds width_of input new fed → GoesBy width_of fed looked (Look ∷ []) → GoesBy width_of looked now (Forget number ∷ [])
-        → IfSome input (λ x. (state_in now).screen ≡ (meaning (width_of w) width height (Piece x ∷ Look ∷ [])).state.screen)
-    shows_input None fed looked now number h g forget = tt
-    shows_input (Some x) fed looked now number h g forget = shows x fed looked now number h g forget
+    pub new_some_rows : (input old now : Option (List ℕ)) → ShowsSomeRows width_of new input old now → IfSome input (λ x. AppendsPrefix old now (rows_shown (width_of w) width height x))
+    new_some_rows None old now s = tt
+    new_some_rows (Some x) old now s = subst (λ (y : W). AppendsPrefix old now (rows_shown (width_of y) width height x)) e (s (new_standing width height) at (omega arith))
 
-    -- ---- the cause of a refused number
-
-    past : (input : List ℕ) → 2 ^ 64 ≤ (standing_after (of new) (standing_after (of new) (new_standing width height) (Piece input ∷ [])) (Look ∷ [])).log.log.number
-        → 2 ^ 64 ≤ (log_of (width_of w) width height (Piece input ∷ Look ∷ [])).log.number
-    past input n =
-        subst (λ v. 2 ^ 64 ≤ (log_of (width_of v) width height (Piece input ∷ Look ∷ [])).log.number) e
-        (subst (λ (x : Standing). 2 ^ 64 ≤ x.log.log.number) (sym (standings_join (of new) (new_standing width height) (Piece input ∷ []) (Look ∷ []))) n)
-
-    pub number_at_look : (input : Option (List ℕ)) → FeedingNeedsNumber width_of input new → IfSome input (λ x. 2 ^ 64 ≤ (log_of (width_of w) width height (Piece x ∷ Look ∷ [])).log.number)
-    number_at_look None n = tt
-    number_at_look (Some x) n =
-        let there = n (new_standing width height) at (omega arith) in
-        let rises = number_rises (of new) (standing_after (of new) (new_standing width height) (Piece x ∷ [])) (Look ∷ []) in
-        past x (omega arith)
-
-    pub number_of_look : (input : Option (List ℕ)) (fed : Terminal W) → Feeds width_of input new fed → NeedsNumber width_of fed (Look ∷ []) → IfSome input (λ x. 2 ^ 64 ≤ (log_of (width_of w) width height (Piece x ∷ Look ∷ [])).log.number)
-    number_of_look None fed h n = tt
-    number_of_look (Some x) fed h n =
-        let whole = standing_after (of new) (new_standing width height) (Piece x ∷ []) in
-        past x (needs_there width_of new.surface.grid.widths whole.log.log.number fed whole (Look ∷ []) tt h.widths (h.answers (new_standing width height) at (omega arith)) n)
-
-    -- ---- the cause of refused memory
+    pub new_number : (input : Option (List ℕ)) → ReadingNeedsNumber width_of one_look new input → IfSome input (λ x. 2 ^ 64 ≤ (log_of (width_of w) width height (Piece x ∷ Look ∷ [])).log.number)
+    new_number None n = tt
+    new_number (Some x) n = subst (λ (y : W). 2 ^ 64 ≤ (log_of (width_of y) width height (Piece x ∷ Look ∷ [])).log.number) e (n (new_standing width height) at (omega arith))
 
     pub refused_new : (history_of : List ℕ → History) (input left : Option (List ℕ)) → ReadingIsRefusedMemory width_of history_of new input left
         → IfSome input (λ x. IsRefusedMemory (width_of w) (new_standing width height) history_of x left)
     refused_new history_of None left r = tt
     refused_new history_of (Some x) left r =
         subst (λ v. IsRefusedMemory (width_of v) (new_standing width height) history_of x left) e (r (new_standing width height) at (omega arith))
-
-    -- memory may be refused where all of the input was fed and there are numbers for the look
-    pub fits_look : (input left : Option (List ℕ)) (fed : Terminal W) → Feeds width_of input new fed → IfSome input (λ x. left ≡ Some []) → HasNumbers width_of fed (Look ∷ [])
-        → IfSome input (λ x. IsRefusedMemory (width_of w) (new_standing width height) one_look x left)
-    fits_look None left fed h all n = tt
-    fits_look (Some x) left fed h all n =
-        let start = new_standing width height in
-        let whole = standing_after (of new) start (Piece x ∷ []) in
-        record {
-          part = record { read = x; rest = []; whole = sym (append-nil x); remaining = all };
-          why = inr (subst (λ v. (standing_after (width_of v) start (one_look x)).log.log.number < 2 ^ 64) e
-              (subst (λ (y : Standing). y.log.log.number < 2 ^ 64) (sym (standings_join (of new) start (Piece x ∷ []) (Look ∷ [])))
-              (fits_there width_of new.surface.grid.widths whole.log.log.number fed whole (Look ∷ []) tt h.widths (h.answers start at (omega arith)) n)));
-        }
 
 -- before the first read there are numbers for all that was read, which is nothing
 pub nothing_read : (f : List ℕ → ℕ) (width height : ℕ) (history_of : List ℕ → History) (input : Option (List ℕ)) → history_of [] ≡ one_look []
@@ -188,7 +211,6 @@ nothing_read f width height history_of (Some x) e =
       why = inr (subst (λ h. (standing_after f start h).log.log.number < 2 ^ 64) (sym e) (subst (λ n. n < 2 ^ 64) (sym (quiet_look f start refl)) (omega arith)));
     }
 
-pub rows_are : (f : List ℕ → ℕ) (width height : ℕ) (input : Option (List ℕ)) (screen : Screen) (bytes : List ℕ) → IfSome input (λ x. screen ≡ (meaning f width height (Piece x ∷ Look ∷ [])).state.screen)
-    → bytes ≡ screen_text screen → IfSome input (λ x. bytes ≡ rows_shown f width height x)
-rows_are f width height None screen bytes h e = tt
-rows_are f width height (Some x) screen bytes h e = e ∙ ap screen_text h
+pub nothing_shown : (f : List ℕ → ℕ) (width height : ℕ) (input old : Option (List ℕ)) → IfSome input (λ x. AppendsPrefix old old (rows_shown f width height x))
+nothing_shown f width height None old = tt
+nothing_shown f width height (Some x) old = record { written = []; remaining = rows_shown f width height x; whole = refl; appends = nothing_appended old old (keeps_same old) }

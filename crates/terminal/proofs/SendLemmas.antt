@@ -2,13 +2,14 @@
 use Rattle.std.proofs.Common.{◌≡◌, ℕ, ◌+◌, ◌<◌, ◌≤◌, ◌^◌, false, List, [], ◌∷◌, length, refl, sym, ap, subst, ◌∙◌, arith, Option, Some, None}
 use Rattle.std.specs.Prelude.{IfSome}
 use Rattle.std.specs.Io.KnownBytes.{Appends, Consumes, IsAtEnd, Keeps}
+use Rattle.terminal.specs.Fed.{Reads}
 use Rattle.terminal.specs.Written.{IsAt, IsCounted, Lightens, UpdateWritten, Sends, SendsSome, SendsAll, SendsChunks, SendsChunksOf, SendsFirst, SendsPart, LooksNeedNumber, due_from, looked, number_after, update_at, updates_from}
 use Rattle.terminal.specs.Shown.{AppendsPrefix}
 use Rattle.terminal.specs.Headline.{GoesBy}
 use Rattle.terminal.specs.Refusals.{HasNumbers, NeedsMemory, NeedsNumber, ReadingIsRefusedMemory, all_looks}
 use Rattle.terminal.specs.Terminal.{Terminal}
 use Rattle.terminal.proofs.AppendLemmas.{nothing_appended, keeps_same}
-use Rattle.terminal.proofs.UpdateLemmas.{IsSending, sending_chunks, sending_first, sending_lighter, sending_more, sending_next, sending_all, sending_part, sending_some, sending_last, past_feed, past_look, past_end, memory_feed, memory_look, memory_end}
+use Rattle.terminal.proofs.UpdateLemmas.{IsSending, sending_chunks, sending_first, sending_lighter, sending_more, sending_next, sending_all, sending_ends, sending_part, sending_some, sending_last, past_feed, past_look, past_end, memory_feed, memory_look, memory_end}
 use Rattle.terminal_table.specs.History.{Piece, Look}
 use Rattle.terminal_viewers.specs.Updates.{Standing, new_standing}
 
@@ -56,6 +57,15 @@ module _ {W : Type 0} (width_of : W → List ℕ → ℕ) where
     on_all (Some input) (Some rest) None u later new s c e sends = absurd c
     on_all (Some input) (Some rest) (Some next) u later new s c e sends = λ start at counted.
         sending_all width_of before.surface.grid.widths every start input rest old now t number left (s start at counted) u later new (c ∙ e)
+        (λ x there. subst (λ (y : W). UpdateWritten (width_of y) x number later u now new) same (sends x there))
+
+    pub on_ends : (input rest next : Option (List ℕ)) (u : Terminal W) (later : ℕ) (new : Option (List ℕ)) → SendsOn width_of every before input rest old now t number left → Consumes rest next [] → IsAtEnd next → Sends width_of t u number later now new
+        → Reads width_of (all_looks every) before input u
+    on_ends None rest next u later new s c e sends = tt
+    on_ends (Some input) None next u later new s c e sends = absurd s
+    on_ends (Some input) (Some rest) None u later new s c e sends = absurd c
+    on_ends (Some input) (Some rest) (Some next) u later new s c e sends = λ start at counted.
+        sending_ends width_of before.surface.grid.widths every start input rest old now t number left (s start at counted) u later new (c ∙ e)
         (λ x there. subst (λ (y : W). UpdateWritten (width_of y) x number later u now new) same (sends x there))
 
     -- ---- where it ends early

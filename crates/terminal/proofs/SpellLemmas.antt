@@ -1,6 +1,6 @@
 -- A terminal all of whose changes have an encoding is still one after any history of sizes less than 2^32.
 use Rattle.std.proofs.Common.{◌≡◌, ℕ, ◌<◌, ◌^◌, Bool, true, false, List, [], ◌∷◌, ◌++◌, length, take, map, fold, replicate, refl, sym, ap, subst, ◌∙◌, arith, length-take, length-append}
-use Rattle.std.specs.Prelude.{⊤, ◌-◌, None}
+use Rattle.std.specs.Prelude.{⊤, ◌-◌, Option, None}
 use Rattle.std.proofs.lemmas.List.{length-replicate}
 use Rattle.cell_base.specs.Screen.{Screen, height}
 use Rattle.cell_base.specs.Row.{plain_row}
@@ -19,16 +19,16 @@ use Rattle.terminal.proofs.GoLemmas.{with_parts, stands_somewhere, looked, resiz
 use Rattle.terminal_render.specs.Spelling.{HaveEncodings, IsSpelledSaved, IsSpelledScreen, IsSpelledText, IsSpelledView}
 use Rattle.terminal_render.proofs.LogLemmas.{history_keeps}
 use Rattle.terminal_render.proofs.StreamLemmas.{history_spelled}
-use Rattle.terminal_render.proofs.ViewLemmas.{HasSize, new_spelled, settled_is, settled_size, step_size}
+use Rattle.terminal_render.proofs.ViewLemmas.{HasSize, acted_size, new_spelled_with, settled_size}
 use Rattle.terminal_steps.specs.Events.{IsReady, Had}
 use Rattle.terminal_steps.specs.Items.{Leads, item_events}
 use Rattle.terminal_steps.specs.declared.state.TerminalState.{TerminalState}
-use Rattle.terminal_table.specs.Functions.{function_of}
 use Rattle.terminal_table.specs.History.{History, Piece, Look, Resize, Forget, Event, Act, Looked, Resized, Forgot, events}
-use Rattle.terminal_table.specs.Meaning.{View, new_view, settled, event_done, after}
-use Rattle.terminal_table.specs.Steps.{step_of}
+use Rattle.terminal_table.specs.Meaning.{View, new_view_with, settled, event_done, after}
+use Rattle.terminal_table.specs.Modes.{Modes}
+use Rattle.terminal_table.specs.Requests.{acted}
 use Rattle.terminal_table.specs.Turns.{IsView, AreEvents, AreSizes}
-use Rattle.terminal_table.proofs.EventLemmas.{event_is}
+use Rattle.terminal_table.proofs.EventLemmas.{event_is, settled_is}
 use Rattle.terminal_table.proofs.JoinLemmas.{nothing_after}
 use Rattle.terminal_table.proofs.PrintLemmas.{AllCut, events_are}
 
@@ -74,7 +74,7 @@ events_small stream (Forget number ∷ history) h = (tt, events_small stream his
 same_small : (s t : Screen) → HasSize s t → IsSmall t → IsSmall s
 same_small s t size h = record { wide = subst (λ n. n < 2 ^ 32) (sym size.wide) h.wide; tall = subst (λ n. n < 2 ^ 32) (sym size.tall) h.tall }
 
-settled_small : (f : List ℕ → ℕ) (v : View) → IsView v → IsSmall v.state.screen → IsSmall (settled f v).state.screen
+settled_small : (f : List ℕ → ℕ) (v : View) → IsView f v → IsSmall v.state.screen → IsSmall (settled f v).state.screen
 settled_small f v h p = same_small (settled f v).state.screen v.state.screen (settled_size f v h) p
 
 resized_tall : (width tall : ℕ) (s : Screen) → height (resized_screen width tall s) ≡ tall
@@ -85,25 +85,25 @@ resized_tall width tall s =
     let both = length-append (take tall rows) (replicate (tall - length rows) (plain_row width)) in
     omega arith
 
-event_small : (f : List ℕ → ℕ) (v : View) (event : Event) → IsView v → IsSmallEvent event → IsSmall v.state.screen → IsSmall (event_done f v event).state.screen
+event_small : (f : List ℕ → ℕ) (v : View) (event : Event) → IsView f v → IsSmallEvent event → IsSmall v.state.screen → IsSmall (event_done f v event).state.screen
 event_small f v (Act action) h k p = by_test (is_print action) refl
   where
-    acted : IsSmall (step_of (function_of action) (settled f v).state).screen
-    acted = same_small (step_of (function_of action) (settled f v).state).screen (settled f v).state.screen (step_size (function_of action) (settled f v).state (settled_is f v h).lawful) (settled_small f v h p)
+    done_small : IsSmall (acted action (settled f v).state).screen
+    done_small = same_small (acted action (settled f v).state).screen (settled f v).state.screen (acted_size f action (settled f v).state (settled_is f v h).lawful) (settled_small f v h p)
 
     by_test : (b : Bool) → is_print action ≡ b → IsSmall (event_done f v (Act action)).state.screen
     by_test true e = rw e p
-    by_test false e = rw e acted
+    by_test false e = rw e done_small
 event_small f v Looked h k p = settled_small f v h p
 event_small f v (Resized width tall) h k p =
     record { wide = k.0; tall = subst (λ n. n < 2 ^ 32) (sym (resized_tall width tall (settled f v).state.screen)) k.1 }
 event_small f v (Forgot number) h k p = p
 
-all_small : (f : List ℕ → ℕ) (v : View) (es : List Event) → IsView v → AreEvents es → AreSmallEvents es → IsSmall v.state.screen → IsSmall (fold (event_done f) v es).state.screen
+all_small : (f : List ℕ → ℕ) (v : View) (es : List Event) → IsView f v → AreEvents es → AreSmallEvents es → IsSmall v.state.screen → IsSmall (fold (event_done f) v es).state.screen
 all_small f v [] h l k p = p
 all_small f v (event ∷ es) h l k p = all_small f (event_done f v event) es (event_is f v event h l.0) l.1 k.1 (event_small f v event h k.0 p)
 
-history_small : (f : List ℕ → ℕ) (v : View) (history : History) → IsView v → AreSizes history → AreSmall history → IsSmall v.state.screen → IsSmall (after f v history).state.screen
+history_small : (f : List ℕ → ℕ) (v : View) (history : History) → IsView f v → AreSizes history → AreSmall history → IsSmall v.state.screen → IsSmall (after f v history).state.screen
 history_small f v history h s k p = all_small f v (events v.stream history) h (events_are cut v.stream history s) (events_small v.stream history k) p
 
 -- ---- terminals
@@ -123,7 +123,7 @@ module _ {W : Type 0} (width_of : W → List ℕ → ℕ) where
   at_view : (t : Terminal W) (view : View) → StandsAt t view → (shown_by t.surface).screen ≡ view.state.screen
   at_view t view st = ap (λ s. s.screen) st.state
 
-  pub spelled_after : (x y : Terminal W) (history : History) (view : View) → StandsAt x view → IsView view → AreSizes history → AreSmall history → IsSpelled x → GoesBy width_of x y history
+  pub spelled_after : (x y : Terminal W) (history : History) (view : View) → StandsAt x view → IsView (of x) view → AreSizes history → AreSmall history → IsSpelled x → GoesBy width_of x y history
       → (shown_by y.surface).shape ≡ (shown_by x.surface).shape → y.surface.is_failed ≡ false → IsSpelled y
   spelled_after x y history view st lawful sizes small p g shape stays =
       let next = after (of x) view history in
@@ -152,10 +152,10 @@ module _ {W : Type 0} (width_of : W → List ℕ → ℕ) where
   -- ---- by parts
 
   -- a new terminal
-  pub spelled_first : (t : Terminal W) (width rows : ℕ) → width < 2 ^ 32 → rows < 2 ^ 32 → StandsAt t (new_view width rows) → t.surface.log.log.entries ≡ [] → (shown_by t.surface).shape ≡ None → t.surface.is_failed ≡ false → IsSpelled t
-  spelled_first t width rows wide tall st none shape stays =
-      let first = new_spelled width rows in
-      let here = at_view t (new_view width rows) st in
+  pub spelled_first : (t : Terminal W) (modes : Option Modes) (width rows : ℕ) → width < 2 ^ 32 → rows < 2 ^ 32 → StandsAt t (new_view_with modes width rows) → t.surface.log.log.entries ≡ [] → (shown_by t.surface).shape ≡ None → t.surface.is_failed ≡ false → IsSpelled t
+  spelled_first t modes width rows wide tall st none shape stays =
+      let first = new_spelled_with modes width rows in
+      let here = at_view t (new_view_with modes width rows) st in
       record {
         surface = record {
           stays = stays;
@@ -170,7 +170,7 @@ module _ {W : Type 0} (width_of : W → List ℕ → ℕ) where
       }
 
   -- for a terminal by its parts: its changes still have encodings after a history
-  pub parts_spelled : (s r : TerminalState W) (u w : Held) (history : History) (events : List Event) → IsReached u → IsReady s → AreSizes history → AreSmall history → IsSpelled (with_parts s u)
+  pub parts_spelled : (s r : TerminalState W) (u w : Held) (history : History) (events : List Event) → IsReached u → IsReady width_of s → AreSizes history → AreSmall history → IsSpelled (with_parts s u)
       → GoesBy width_of (with_parts s u) (with_parts r w) history → Had width_of s r events → IsSpelled (with_parts r w)
   parts_spelled s r u w history events reached ready sizes small p g had =
       let some = stands_somewhere width_of s u (with_parts s u) reached ready refl in
@@ -179,22 +179,22 @@ module _ {W : Type 0} (width_of : W → List ℕ → ℕ) where
   pub still_held : (u : Held) (view : View) → u ≡ held_of view.stream → u ≡ held_of (view.stream ++ [])
   still_held u view e = e ∙ ap held_of (sym (nothing_after view.stream))
 
-  pub looked_spelled : (s r : TerminalState W) (u : Held) → IsReached u → IsReady s → IsSpelled (with_parts s u) → Had width_of s r (Looked ∷ []) → IsSpelled (with_parts r u)
+  pub looked_spelled : (s r : TerminalState W) (u : Held) → IsReached u → IsReady width_of s → IsSpelled (with_parts s u) → Had width_of s r (Looked ∷ []) → IsSpelled (with_parts r u)
   looked_spelled s r u reached ready p had =
       parts_spelled s r u u (Look ∷ []) (Looked ∷ []) reached ready tt tt p
       (went width_of s r u u (Look ∷ []) (λ view. Looked ∷ []) reached (looked (width_of s.surface.grid.widths)) (still_held u) (λ view e. had)) had
 
-  pub resized_spelled : (s r : TerminalState W) (u : Held) (width rows : ℕ) → (0 < width) × (width < 2 ^ 32) → (0 < rows) × (rows < 2 ^ 32) → IsReached u → IsReady s → IsSpelled (with_parts s u) → Had width_of s r (Resized width rows ∷ []) → IsSpelled (with_parts r u)
+  pub resized_spelled : (s r : TerminalState W) (u : Held) (width rows : ℕ) → (0 < width) × (width < 2 ^ 32) → (0 < rows) × (rows < 2 ^ 32) → IsReached u → IsReady width_of s → IsSpelled (with_parts s u) → Had width_of s r (Resized width rows ∷ []) → IsSpelled (with_parts r u)
   resized_spelled s r u width rows wide tall reached ready p had =
       parts_spelled s r u u (Resize width rows ∷ []) (Resized width rows ∷ []) reached ready (wide.0, tall.0, tt) (wide.1, tall.1, tt) p
       (went width_of s r u u (Resize width rows ∷ []) (λ view. Resized width rows ∷ []) reached (resized width rows (width_of s.surface.grid.widths)) (still_held u) (λ view e. had)) had
 
-  pub forgot_spelled : (s r : TerminalState W) (u : Held) (number : ℕ) → IsReached u → IsReady s → IsSpelled (with_parts s u) → Had width_of s r (Forgot number ∷ []) → IsSpelled (with_parts r u)
+  pub forgot_spelled : (s r : TerminalState W) (u : Held) (number : ℕ) → IsReached u → IsReady width_of s → IsSpelled (with_parts s u) → Had width_of s r (Forgot number ∷ []) → IsSpelled (with_parts r u)
   forgot_spelled s r u number reached ready p had =
       parts_spelled s r u u (Forget number ∷ []) (Forgot number ∷ []) reached ready tt tt p
       (went width_of s r u u (Forget number ∷ []) (λ view. Forgot number ∷ []) reached (forgot number (width_of s.surface.grid.widths)) (still_held u) (λ view e. had)) had
 
-  pub fed_spelled : (s r : TerminalState W) (u w : Held) (bytes : List ℕ) → IsReached u → IsReady s → IsSpelled (with_parts s u)
+  pub fed_spelled : (s r : TerminalState W) (u w : Held) (bytes : List ℕ) → IsReached u → IsReady width_of s → IsSpelled (with_parts s u)
       → ((stream : List ℕ) → u ≡ held_of stream → Leads width_of s r (items stream bytes))
       → ((stream : List ℕ) → u ≡ held_of stream → w ≡ held_of (stream ++ bytes))
       → IsSpelled (with_parts r w)

@@ -6,7 +6,7 @@ use Rattle.std.proofs.lemmas.Bool.Decides.{eqb_tells}
 use Rattle.std.specs.Io.KnownBytes.{Appends}
 use Rattle.cell_surface.specs.Surface.{number_of}
 use Rattle.escape_framing.proofs.Existence.Utf8Lemmas.{order}
-use Rattle.terminal.specs.Fed.{AnswersAt}
+use Rattle.terminal.specs.Fed.{AnswersAt, AnswersNow}
 use Rattle.terminal.specs.Written.{IsAt, IsCounted, Lightens, UpdateWritten, SendsChunks, SendsPart, due_from, looked, lightened, update_at, updates_from, number_after}
 use Rattle.terminal.specs.Shown.{AppendsPrefix}
 use Rattle.terminal.specs.Headline.{GoesBy}
@@ -320,6 +320,25 @@ module _ {W : Type 0} (width_of : W → List ℕ → ℕ) (w : W) where
         let update = update_at (next_of s.begun) number in
         subst (Appends old new) (sym (at_end e ∙ ap (λ l. s.written ++ l) (append-nil update)))
         (appends_both old now new s.written update s.appends (subst (Appends now new) (update_is s.begun t s.answers) sent.appends))
+
+    -- the terminal has then read the input, and looked at it after each chunk
+    pub sending_ends : (u : Terminal W) (later : ℕ) (new : Option (List ℕ)) → rest ≡ [] → ((x : Standing) → IsAt t x → UpdateWritten f x number later u now new) → AnswersNow u (standing_after f start (all_looks every input))
+    unfolding with_chunk next_of here
+    sending_ends u later new e sends =
+        let sent = sends s.answers.kept s.answers.at in
+        let answers = looked_on s.begun t s.answers in
+        let later_is : later ≡ (next_of s.begun).log.log.number = sent.next_is ∙ answers.logs.count in
+        let seen = s.seen in
+        let rises = next_rises s.begun in
+        let chunks_are : in_chunks every [] input ≡ s.done ++ s.begun ∷ [] = ap (in_chunks every []) (s.whole ∙ ap (λ l. s.read ++ l) e) ∙ s.chunks [] in
+        let there : next_of s.begun ≡ standing_after f start (all_looks every input) =
+        ap (λ x. standing_after f x (looks (s.begun ∷ []))) s.last_is ∙ sym (standings_join f start (looks s.done) (looks (s.begun ∷ [])))
+        ∙ ap (standing_after f start) (sym (looks-append s.done (s.begun ∷ [])) ∙ ap looks (sym chunks_are)) in
+        subst (AnswersNow u) there (subst (λ n. AnswersAt n u (next_of s.begun)) later_is (record {
+          kept = lightened f later (looked f s.answers.kept);
+          at = sent.at;
+          answers = answers_lightened width_of w s.from later (looked f s.answers.kept) (next_of s.begun) (omega (arith, later_is, seen, rises)) answers;
+        }))
 
     -- ---- where it ends early
 

@@ -4,7 +4,7 @@ use Rattle.cell_base.specs.Row.{space, plain_row}
 use Rattle.cell_base.specs.Screen.{Screen, IsScreen, height}
 use Rattle.cell_base.specs.ScreenSize.{IsScreenSize}
 use Rattle.screen_change.specs.ChangeValue.{ChangeValue}
-use Rattle.cell_surface.specs.Surface.{Surface, shown_by, number_of}
+use Rattle.cell_surface.specs.Surface.{Surface, number_of}
 use Rattle.screen_log.specs.LogSteps.{Forgotten, Sized, step_of_kept}
 use Rattle.screen_log.specs.Log.{due, most_due}
 use Rattle.escape_framing.specs.Framed.{IsReached}
@@ -44,7 +44,7 @@ use Rattle.terminal_table.specs.History.{History, Piece, Look, Looked, Forget}
 use Rattle.terminal_table.specs.Logged.{event_logged}
 use Rattle.terminal_table.specs.Meaning.{View, new_view, after, settled}
 use Rattle.terminal_table.specs.State.{State, IsState}
-use Rattle.terminal_table.specs.Turns.{IsPrinted, IsView, AreSizes, changes_in, replayed}
+use Rattle.terminal_table.specs.Turns.{IsRunText, IsView, AreSizes, changes_in, replayed}
 use Rattle.terminal_table.proofs.EventLemmas.{event_turns}
 use Rattle.terminal_table.proofs.StateLemmas.{new_is}
 use Rattle.terminal_viewers.specs.Shows.{Shows}
@@ -57,61 +57,59 @@ idle_stream : held_of [] ≡ nothing_held
 unfolding hand_out
 idle_stream = refl
 
--- a terminal that stands at a lawful view, whose cells are sound and whose changes have encodings
+-- a terminal that stands at a lawful view, and whose changes have encodings
 pub record IsSound {W : Type 0} (width_of : W → List ℕ → ℕ) (t : Terminal W) : Type 0 where
   pub view : View
   pub stands : StandsAt t view
-  pub lawful : IsView view
+  pub lawful : IsView (width_of t.surface.grid.widths) view
   pub spelled : IsSpelled t
-  pub cells : IsSoundDisplay (width_of t.surface.grid.widths) (shown_by t.surface)
 
 module _ {W : Type 0} (width_of : W → List ℕ → ℕ) where
   abbrev of : Terminal W → List ℕ → ℕ
   of t = width_of t.surface.grid.widths
 
-  pub sound_of : (t : Terminal W) (s : Surface W) → s ≡ t.surface → (view : View) × StandsAt t view × IsView view → IsSpelled t → (s.is_failed ≡ false → IsSoundDisplay (width_of s.grid.widths) (shown_by s)) → IsSound width_of t
-  sound_of t s e stands p cells = record {
-    view = stands.0;
-    stands = stands.1;
-    lawful = stands.2;
-    spelled = p;
-    cells = subst (λ (x : Surface W). IsSoundDisplay (width_of x.grid.widths) (shown_by x)) e (cells (ap (λ (x : Surface W). x.is_failed) e ∙ p.surface.stays));
-  }
+  pub sound_of : (t : Terminal W) → (view : View) × StandsAt t view × IsView (of t) view → IsSpelled t → IsSound width_of t
+  sound_of t stands p = record { view = stands.0; stands = stands.1; lawful = stands.2; spelled = p }
 
   pub counted_of : (t : Terminal W) (s : Surface W) → s ≡ t.surface → length s.log.log.entries ≤ number_of s → length t.surface.log.log.entries ≤ number_of t.surface
   counted_of t s e h = subst (λ (x : Surface W). length x.log.log.entries ≤ number_of x) e h
 
-  state_is : (t : Terminal W) → IsSound width_of t → IsState (state_in t)
-  state_is t s = subst IsState (sym s.stands.state) s.lawful.lawful
+  state_is : (t : Terminal W) → IsSound width_of t → IsState (of t) (state_in t)
+  state_is t s = subst (IsState (of t)) (sym s.stands.state) s.lawful.lawful
+
+  display_is : (t : Terminal W) → IsSound width_of t → IsDisplay (display_on (state_in t).screen)
+  display_is t s = let h = state_is t s in display_on_is (state_in t).screen h.lawful h.whole
 
   -- a viewer that is ready and idle, and shows the terminal at a number, can read the update for that number
-  can_read : (t : Terminal W) (viewer : View) (number : ℕ) (f : List ℕ → ℕ) → of t ≡ f → f space ≡ 1 → IsSound width_of t → IsReady viewer → alone.IsIdle viewer → ShowsAt width_of viewer.state.screen number t
+  can_read : (t : Terminal W) (viewer : View) (number : ℕ) (f : List ℕ → ℕ) → of t ≡ f → IsSound width_of t → IsReady viewer → alone.IsIdle viewer → ShowsAt width_of viewer.state.screen number t
       → CanRead f viewer (state_in t).screen t.surface.log number
-  can_read t viewer number f e narrow s ready idle shows = record {
-    narrow = narrow;
+  can_read t viewer number f e s ready idle shows = record {
+    narrow = subst (λ (g : List ℕ → ℕ). g space ≡ 1) e s.lawful.lawful.narrow;
     ready = ready;
     idle = idle;
-    display = display_on_is (state_in t) (state_is t s);
-    sound = subst (λ g. IsSoundDisplay g (display_on (state_in t).screen)) e s.cells;
+    display = display_is t s;
+    sound = subst (λ g. IsSoundDisplay g (display_on (state_in t).screen)) e (state_is t s).sound;
     spelled = s.spelled.surface.spelled;
     encodings = s.spelled.surface.kept;
     shows = subst (λ g. Shows g viewer.state.screen number (state_in t).screen t.surface.log) e shows;
   }
 
   -- an idle viewer is ready for encodings
-  ready_is : (v : Terminal W) (s : IsSound width_of v) → IsIdle v → IsReady s.view
-  ready_is v s idle = record {
-    lawful = s.lawful.lawful;
+  ready_is : (v : Terminal W) (s : IsSound width_of v) → IsIdle v → v.modes ≡ None → IsReady s.view
+  ready_is v s idle plain = record {
+    lawful = s.lawful.lawful.lawful;
+    whole = s.lawful.lawful.whole;
     width = subst (λ (x : State). x.screen.width < 2 ^ 32) s.stands.state s.spelled.surface.wide;
     height = subst (λ (x : State). height x.screen < 2 ^ 32) s.stands.state s.spelled.surface.tall;
     run = sym s.stands.run ∙ idle.run;
+    plain = sym (ap (λ (x : State). x.modes) s.stands.state) ∙ plain;
   }
 
   -- a viewer at which an update was fed
-  module _ (t v later : Terminal W) (number : ℕ) (narrow : of v space ≡ 1) (st : IsSound width_of t) (sv : IsSound width_of v) (idle : IsIdle v) (same : of v ≡ of t)
+  module _ (t v later : Terminal W) (number : ℕ) (st : IsSound width_of t) (sv : IsSound width_of v) (idle : IsIdle v) (plain : v.modes ≡ None) (same : of v ≡ of t)
       (shows : ShowsAt width_of (state_in v).screen number t) (g : GoesBy width_of v later (Piece (update_for t number) ∷ [])) where
     reads : CanRead (of v) sv.view (state_in t).screen t.surface.log number
-    reads = can_read t sv.view number (of v) (sym same) narrow st (ready_is v sv idle) (idle_view width_of v sv.view idle sv.stands)
+    reads = can_read t sv.view number (of v) (sym same) st (ready_is v sv idle plain) (idle_view width_of v sv.view idle sv.stands)
         (subst (λ (x : State). ShowsAt width_of x.screen number t) sv.stands.state shows)
 
     pub update_shown : UpdatesAreShown → state_in later ≡ record (state_in v) { screen = (state_in t).screen }
@@ -132,25 +130,24 @@ module _ {W : Type 0} (width_of : W → List ℕ → ℕ) where
   at_view v s view stands = record {
     view = view;
     stands = stands;
-    lawful = record { lawful = subst IsState (sym s.stands.state ∙ stands.state) s.lawful.lawful; plain = subst IsPrinted (sym s.stands.run ∙ stands.run) s.lawful.plain };
+    lawful = record { lawful = subst (IsState (of v)) (sym s.stands.state ∙ stands.state) s.lawful.lawful; plain = subst IsRunText (sym s.stands.run ∙ stands.run) s.lawful.plain };
     spelled = s.spelled;
-    cells = s.cells;
   }
 
   count_is : (t : Terminal W) → height (state_in t).screen ≡ length t.surface.grid.lines
   count_is t = length-map t.surface.grid.lines (λ l. l.columns)
 
-  module _ (t v shown : Terminal W) (narrow : of v space ≡ 1) (st : IsSound width_of t) (sv : IsSound width_of v) (can : CanReadFrom width_of t v shown) where
+  module _ (t v shown : Terminal W) (st : IsSound width_of t) (sv : IsSound width_of v) (can : CanReadFrom width_of t v shown) where
     abbrev new_screen : Screen
     new_screen = (state_in t).screen
 
     reads_patch : CanReadPatch (of v) sv.view new_screen
     reads_patch = record {
-      narrow = narrow;
-      ready = ready_is v sv can.idle;
+      narrow = sv.lawful.lawful.narrow;
+      ready = ready_is v sv can.idle can.plain;
       idle = idle_view width_of v sv.view can.idle sv.stands;
-      display = display_on_is (state_in t) (state_is t st);
-      sound = subst (λ g. IsSoundDisplay g (display_on new_screen)) (sym can.widths) st.cells;
+      display = display_is t st;
+      sound = subst (λ g. IsSoundDisplay g (display_on new_screen)) (sym can.widths) (state_is t st).sound;
       spelled = st.spelled.surface.spelled;
       wide = subst (λ (x : State). x.screen.width ≡ new_screen.width) sv.stands.state can.wide;
       tall = subst (λ (x : State). height x.screen ≡ height new_screen) sv.stands.state (count_is v ∙ can.tall ∙ sym (count_is t));
@@ -186,12 +183,12 @@ module _ {W : Type 0} (width_of : W → List ℕ → ℕ) where
     pub wide : one.surface.grid.width ≡ other.surface.grid.width
     pub tall : length one.surface.grid.lines ≡ length other.surface.grid.lines
 
-  pub look_keeps_size : (t now : Terminal W) → (view : View) × StandsAt t view × IsView view → GoesBy width_of t now (Look ∷ []) → IsSize t now
+  pub look_keeps_size : (t now : Terminal W) → (view : View) × StandsAt t view × IsView (of t) view → GoesBy width_of t now (Look ∷ []) → IsSize t now
   look_keeps_size t now s g =
       let view : View = s.0 in
       let f = of t in
       let d : Display = display_on view.state.screen in
-      let lawful : IsDisplay d = display_on_is view.state s.2.lawful in
+      let lawful : IsDisplay d = display_on_is view.state.screen s.2.lawful.lawful s.2.lawful.whole in
       let turned : (replayed f view Looked d).screen ≡ (settled f view).state.screen = (event_turns f view Looked d s.2 tt lawful refl).screen in
       let size = replay_size f (changes_in (event_logged f view Looked)) d lawful in
       let same : (state_in now).screen ≡ (replayed f view Looked d).screen = ap (λ (x : State). x.screen) (g.stands view s.1).state ∙ sym turned in
@@ -202,7 +199,7 @@ module _ {W : Type 0} (width_of : W → List ℕ → ℕ) where
       }
 
   -- where the held run ends the size stays
-  pub settle_keeps_size : (s r : TerminalState W) (u : Held) → IsReached u → steps.IsReady s → steps.Had width_of s r (Looked ∷ []) → IsSize (with_parts s u) (with_parts r u)
+  pub settle_keeps_size : (s r : TerminalState W) (u : Held) → IsReached u → steps.IsReady width_of s → steps.Had width_of s r (Looked ∷ []) → IsSize (with_parts s u) (with_parts r u)
   settle_keeps_size s r u reached ready had =
       look_keeps_size (with_parts s u) (with_parts r u) (stands_somewhere width_of s u (with_parts s u) reached ready refl)
       (went width_of s r u u (Look ∷ []) (λ view. Looked ∷ []) reached (looked (width_of s.surface.grid.widths)) (still_held width_of u) (λ view e. had))
@@ -214,7 +211,6 @@ module _ {W : Type 0} (width_of : W → List ℕ → ℕ) where
     lawful = s.lawful;
     wide = subst (λ (x : State). x.screen.width < 2 ^ 32) s.stands.state s.spelled.surface.wide;
     tall = subst (λ (x : State). height x.screen < 2 ^ 32) s.stands.state s.spelled.surface.tall;
-    sound = subst (λ (x : State). IsSoundDisplay (of t) (display_on x.screen)) s.stands.state s.cells;
     spelled = record { state = subst IsSpelledState s.stands.state (record { screen = s.spelled.surface.spelled; saved = s.spelled.saved }); held = subst IsSpelledText s.stands.run s.spelled.run };
     encodings = subst (λ (x : State). HaveEncodings x.screen.width (height x.screen) t.surface.log.log.entries) s.stands.state s.spelled.surface.kept;
     counted = counted;
@@ -245,9 +241,9 @@ module _ {W : Type 0} (width_of : W → List ℕ → ℕ) where
 
   -- ---- the first update
 
-  pub first_tells : UpdatesAreShown → (one other : Terminal W) → of one space ≡ 1 → IsSound width_of one → IsSound width_of other → of one ≡ of other
+  pub first_tells : UpdatesAreShown → (one other : Terminal W) → IsSound width_of one → IsSound width_of other → of one ≡ of other
       → (state_in one).screen.width ≡ (state_in other).screen.width → height (state_in one).screen ≡ height (state_in other).screen → update_for one 0 ≡ update_for other 0 → (state_in one).screen ≡ (state_in other).screen
-  first_tells law one other narrow s r same wide tall bytes =
+  first_tells law one other s r same wide tall bytes =
       ap (λ (x : State). x.screen) (sym (seen one s refl refl refl) ∙ ap (λ b. (after (of one) viewer (Piece b ∷ [])).state) bytes ∙ seen other r (sym same) wide tall)
     where
       size : Screen
@@ -256,13 +252,13 @@ module _ {W : Type 0} (width_of : W → List ℕ → ℕ) where
       viewer : View
       viewer = new_view size.width (height size)
 
-      lawful : IsState viewer.state
-      lawful = let h = (state_is one s).lawful in new_is size.width (height size) h.wide_enough (omega (arith, h.row_in))
+      new : IsState (of one) viewer.state
+      new = let h = (state_is one s).lawful in new_is (of one) None size.width (height size) s.lawful.lawful.narrow h.wide_enough (omega (arith, h.row_in))
 
       seen : (t : Terminal W) → IsSound width_of t → of t ≡ of one → size.width ≡ (state_in t).screen.width → height size ≡ height (state_in t).screen
           → (after (of one) viewer (Piece (update_for t 0) ∷ [])).state ≡ record viewer.state { screen = (state_in t).screen }
-      seen t x e w h = law (of one) viewer (state_in t).screen t.surface.log 0 (can_read t viewer 0 (of one) e narrow x
-          (record { lawful = lawful; width = s.spelled.surface.wide; height = subst (λ n. n < 2 ^ 32) (sym (length-replicate (height size) (plain_row size.width))) s.spelled.surface.tall; run = refl })
+      seen t x e w h = law (of one) viewer (state_in t).screen t.surface.log 0 (can_read t viewer 0 (of one) e x
+          (record { lawful = new.lawful; whole = new.whole; width = s.spelled.surface.wide; height = subst (λ n. n < 2 ^ 32) (sym (length-replicate (height size) (plain_row size.width))) s.spelled.surface.tall; run = refl; plain = refl })
           (record { run = refl; stream = idle_stream })
           (record { wide = w; tall = length-replicate (height size) (plain_row size.width) ∙ h; leads = tt }))
 
@@ -299,7 +295,7 @@ module _ {W : Type 0} (width_of : W → List ℕ → ℕ) where
         record { columns = (lawful.wide_enough, s.spelled.surface.wide); rows = (omega (arith, lawful.row_in), s.spelled.surface.tall) }
 
     spelled_update : ((x : Screen) (log : Sized) (n : ℕ) → IsDisplay (display_on x) → IsSpelledScreen x → HaveEncodings x.width (height x) log.log.entries → HaveEncodings x.width (height x) (update_changes x log n)) → HaveEncodings screen.width (height screen) (changes_for t number)
-    spelled_update law = law screen t.surface.log number (display_on_is (state_in t) (state_is t s)) s.spelled.surface.spelled s.spelled.surface.kept
+    spelled_update law = law screen t.surface.log number (display_is t s) s.spelled.surface.spelled s.spelled.surface.kept
 
     pub short : ((x : Screen) (log : Sized) (n : ℕ) → IsDisplay (display_on x) → IsSpelledScreen x → HaveEncodings x.width (height x) log.log.entries → HaveEncodings x.width (height x) (update_changes x log n))
         → ((w h : ℕ) (changes : List ChangeValue) → HaveEncodings w h changes → all_rendered changes w h ≡ None → ⊥)
@@ -341,7 +337,7 @@ module _ {W : Type 0} (width_of : W → List ℕ → ℕ) where
 
   -- ---- the rendering of one change
 
-  module _ (v later : Terminal W) (change : ChangeValue) (actions : List StreamAction) (sv : IsSound width_of v) (idle : IsIdle v)
+  module _ (v later : Terminal W) (change : ChangeValue) (actions : List StreamAction) (sv : IsSound width_of v) (idle : IsIdle v) (plain : v.modes ≡ None)
       (sent : rendering change (state_in v).screen.width (height (state_in v).screen) ≡ Some actions) (writable : IsWritable actions) (g : GoesBy width_of v later (Piece (stream_text actions) ∷ [])) where
     encoded_at : rendering change sv.view.state.screen.width (height sv.view.state.screen) ≡ Some actions
     encoded_at = subst (λ (x : State). rendering change x.screen.width (height x.screen) ≡ Some actions) sv.stands.state sent
@@ -349,11 +345,11 @@ module _ {W : Type 0} (width_of : W → List ℕ → ℕ) where
     pub rendered_shown : RenderedTextsHaveTheEffect → state_in later ≡ record (state_in v) { screen = (effect (of v) (display_on (state_in v).screen) change).screen }
     rendered_shown law =
         (g.stands sv.view sv.stands).state
-        ∙ ap (λ (x : View). x.state) (law (of v) sv.view (display_on (state_in v).screen) change actions (ready_is v sv idle) (idle_view width_of v sv.view idle sv.stands) writable (ap (λ (x : State). x.screen) sv.stands.state) encoded_at)
+        ∙ ap (λ (x : View). x.state) (law (of v) sv.view (display_on (state_in v).screen) change actions (ready_is v sv idle plain) (idle_view width_of v sv.view idle sv.stands) writable (ap (λ (x : State). x.screen) sv.stands.state) encoded_at)
         ∙ ap (λ (x : State). record x { screen = (effect (of v) (display_on (state_in v).screen) change).screen }) (sym sv.stands.state)
 
     pub rendered_idle : RenderedTextsLeaveIdle → IsIdle later
     rendered_idle law =
         let there = g.stands sv.view sv.stands in
-        let quiet = law (of v) sv.view change actions (ready_is v sv idle) (idle_view width_of v sv.view idle sv.stands) writable encoded_at in
+        let quiet = law (of v) sv.view change actions (ready_is v sv idle plain) (idle_view width_of v sv.view idle sv.stands) writable encoded_at in
         record { run = there.run ∙ quiet.run; unfinished = there.unfinished ∙ quiet.stream }

@@ -1,8 +1,11 @@
 -- The bytes of an input that were fed to a terminal, which forgets the changes and the replies that nobody reads.
 use Rattle.std.specs.Prelude.{◌≡◌, ◌≤◌, ◌^◌, ℕ, List, [], ◌∷◌, ◌++◌, Option, Some, None}
+use Rattle.std.specs.Io.KnownBytes.{Appends}
+use Rattle.cell_base.specs.Screen.{screen_text}
+use Rattle.terminal.specs.Shown.{AppendsPrefix}
 use Rattle.terminal.specs.Written.{IsAt, IsCounted}
 use Rattle.terminal.specs.Terminal.{Terminal}
-use Rattle.terminal_table.specs.History.{Piece}
+use Rattle.terminal_table.specs.History.{History, Piece, Look}
 use Rattle.terminal_viewers.specs.Updates.{Standing, standing_after}
 use Rattle.terminal_viewers.specs.Viewers.{AnswersAs}
 
@@ -40,6 +43,37 @@ FeedsOn width_of (Some input) (Some rest) before now = HasFed width_of input res
 abbrev pub Feeds : {W : Type 0} → (W → List ℕ → ℕ) → Option (List ℕ) → Terminal W → Terminal W → Type 0
 Feeds width_of None before now = Unit {0}
 Feeds width_of (Some input) before now = IsFed width_of input before now
+
+-- From whatever standing, the terminal answers viewers, from the current number on, as one that has gone on by the history
+-- of an input and keeps all changes, if the input is known.
+abbrev pub Reads : {W : Type 0} → (W → List ℕ → ℕ) → (List ℕ → History) → Terminal W → Option (List ℕ) → Terminal W
+    → Type 0
+Reads width_of history_of before None now = Unit {0}
+Reads width_of history_of before (Some input) now =
+    (start : Standing) → IsAt before start → IsCounted start
+    → AnswersNow now (standing_after (width_of before.surface.grid.widths) start (history_of input))
+
+-- the rows of the screen to which an input leads from a standing, with one look at the end, each with a line feed after
+-- it
+abbrev pub rows_after : (List ℕ → ℕ) → Standing → List ℕ → List ℕ
+rows_after width_of start input =
+    screen_text (standing_after width_of start (Piece input ∷ Look ∷ [])).view.state.screen
+
+-- From whatever standing, the bytes that were written are the rows of the screen to which an input leads, with one look
+-- at the end; or they are a prefix of these, if the input is known.
+abbrev pub ShowsRows : {W : Type 0} → (W → List ℕ → ℕ) → Terminal W → Option (List ℕ) → Option (List ℕ)
+    → Option (List ℕ) → Type 0
+ShowsRows width_of before None old new = Unit {0}
+ShowsRows width_of before (Some input) old new =
+    (start : Standing) → IsAt before start → IsCounted start
+    → Appends old new (rows_after (width_of before.surface.grid.widths) start input)
+
+abbrev pub ShowsSomeRows : {W : Type 0} → (W → List ℕ → ℕ) → Terminal W → Option (List ℕ) → Option (List ℕ)
+    → Option (List ℕ) → Type 0
+ShowsSomeRows width_of before None old new = Unit {0}
+ShowsSomeRows width_of before (Some input) old new =
+    (start : Standing) → IsAt before start → IsCounted start
+    → AppendsPrefix old new (rows_after (width_of before.surface.grid.widths) start input)
 
 -- the number after feeding an input doesn't fit in 64 bits, if the input is known
 abbrev pub FeedingNeedsNumber : {W : Type 0} → (W → List ℕ → ℕ) → Option (List ℕ) → Terminal W → Type 0

@@ -9,6 +9,7 @@ pub mod WatchedView
 pub mod Shown
 pub mod Fed
 pub mod Written
+pub mod Live
 pub mod Viewing
 pub mod Samples
 pub mod Groups

@@ -71,3 +71,11 @@ ReadingIsRefusedMemory width_of history_of before None left = Unit {0}
 ReadingIsRefusedMemory width_of history_of before (Some input) left =
     (start : Standing) → IsAt before start → IsCounted start
     → IsRefusedMemory (width_of before.surface.grid.widths) start history_of input left
+
+-- the number after reading an input doesn't fit in 64 bits, from whatever standing, if the input is known
+abbrev pub ReadingNeedsNumber : {W : Type 0} → (W → List ℕ → ℕ) → (List ℕ → History) → Terminal W → Option (List ℕ)
+    → Type 0
+ReadingNeedsNumber width_of history_of before None = Unit {0}
+ReadingNeedsNumber width_of history_of before (Some input) =
+    (start : Standing) → IsAt before start → IsCounted start
+    → 2 ^ 64 ≤ (standing_after (width_of before.surface.grid.widths) start (history_of input)).log.log.number

@@ -1,4 +1,4 @@
--- What `show` writes of an input.
+-- What `show` and `show_on` write of an input.
 use Rattle.std.specs.Prelude.{◌≡◌, ℕ, List, [], ◌∷◌, ◌++◌, Option}
 use Rattle.std.specs.Io.KnownBytes.{Appends}
 use Rattle.cell_base.specs.Screen.{screen_text}

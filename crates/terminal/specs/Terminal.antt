@@ -4,22 +4,24 @@ use Rattle.cell_surface.specs.Surface.{Surface}
 use Rattle.escape_framing.specs.Held.{Held, nothing_held}
 use Rattle.terminal_render.specs.Spelling.{IsSpelledSaved, IsSpelledText}
 use Rattle.terminal_steps.specs.TerminalStates.{state_of}
+use Rattle.terminal_table.specs.Modes.{Modes}
 use Rattle.terminal_table.specs.State.{SavedCursor, State}
 use Rattle.terminal_viewers.specs.Encodable.{CanBeEncoded}
 
--- the surface, the saved cursor, the replies that were not yet taken, the run that nothing has ended, the unfinished
--- bytes of the stream, and whether the terminal has failed
+-- the surface, the saved cursor, the replies that were not yet taken, the modes of the profile xterm (none on a plain
+-- terminal), the run that nothing has ended, the unfinished bytes of the stream, and whether the terminal has failed
 pub record Terminal (W : Type 0) : Type 0 where
   pub surface : Surface W
   pub saved : Option SavedCursor
   pub replies : List ℕ
+  pub modes : Option Modes
   pub run : List ℕ
   pub unfinished : Held
   pub is_failed : Bool
 
 -- the state of a terminal
 abbrev pub state_in : {W : Type 0} → Terminal W → State
-state_in t = state_of t.surface t.saved t.replies
+state_in t = state_of t.surface t.saved t.replies t.modes
 
 -- A terminal's screen, the saved pen, the held run and the changes that its log keeps have an encoding, so that viewers
 -- can get each change.

@@ -1,5 +1,5 @@
 -- What a `Terminal` holds.
-use Rattle.std.specs.Prelude.{◌≡◌, false}
+use Rattle.std.specs.Prelude.{◌≡◌, ℕ, false, List}
 use Rattle.std.specs.String.{string_bytes}
 use Rattle.escape_framing.specs.Framed.{IsReached}
 use Rattle.terminal.specs.Terminal.{Terminal, IsSpelled}
@@ -11,6 +11,7 @@ terminal_of i = record {
   surface = i.state.surface;
   saved = i.state.saved;
   replies = i.state.replies.items;
+  modes = i.state.modes;
   run = string_bytes i.state.held;
   unfinished = i.parser.held;
   is_failed = i.is_failed;
@@ -18,11 +19,11 @@ terminal_of i = record {
 
 -- the invariant of a terminal that hasn't failed: its parts haven't failed, its unfinished bytes are those of some
 -- stream, and its changes have encodings
-pub record CanGoOn {W : Type 0} (i : Inside W) : Type 0 where
-  pub ready : IsReady i.state
+pub record CanGoOn {W : Type 0} (width_of : W → List ℕ → ℕ) (i : Inside W) : Type 0 where
+  pub ready : IsReady width_of i.state
   pub parser : i.parser.failed ≡ false
   pub reached : IsReached i.parser.held
   pub spelled : IsSpelled (terminal_of i)
 
-abbrev pub IsSound : {W : Type 0} → Inside W → Type 0
-IsSound i = i.is_failed ≡ false → CanGoOn i
+abbrev pub IsSound : {W : Type 0} → (W → List ℕ → ℕ) → Inside W → Type 0
+IsSound width_of i = i.is_failed ≡ false → CanGoOn width_of i

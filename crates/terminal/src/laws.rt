@@ -25,11 +25,12 @@ use crate::terminal::Terminal;
 use cell_base::Widths;
 use terminal_table::laws::single_actions_are_their_rows;
 
-/// Each terminal that hasn't failed stands at a view (`StandsAt`), with a lawful state and a run without controls;
-/// and its screen, the saved pen, the run and each change that its log keeps have an encoding, so that viewers can
-/// get them.
+/// Each terminal that hasn't failed stands at a view (`StandsAt`), with a lawful state, each of whose cells has a text
+/// that is by itself one cluster (UAX 29), and a run without controls; and its screen, the saved pen, the run and each
+/// change that its log keeps have an encoding, so that viewers can get them.
 pub fn terminals_stand<W: Widths + Drop>(terminal: &Terminal<W>)
-    ensures stands { terminal.now.is_failed ≡ false → (view : View) × StandsAt terminal.now view × IsView view }
+    ensures stands { terminal.now.is_failed ≡ false
+        → (view : View) × StandsAt terminal.now view × IsView (W.width_of terminal.now.surface.grid.widths) view }
     ensures spelled { terminal.now.is_failed ≡ false → IsSpelled terminal.now }
 {
     terminal.stands();
@@ -88,7 +89,8 @@ pub fn settled_terminals_stay<W: Widths>()
 /// takes some to read them, if no run is held.
 pub fn bytes_that_ask_for_nothing<W: Widths>()
     ensures { (before : Terminal W) (now : Terminal W) (view : View) (bytes : List ℕ)
-        → StandsAt before view → before.run ≡ [] → AllByRecursion AsksNothing (items view.stream bytes)
+        → StandsAt before view → before.run ≡ []
+        → AllByRecursion (AsksNothing before.modes) (items view.stream bytes)
         → NeedsMemory (λ w. W.width_of w) before bytes now → BytesTakeMemory view.stream bytes }
 {}
 

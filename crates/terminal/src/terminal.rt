@@ -8,8 +8,9 @@ ghost use Rattle.terminal.specs.Headline.{StandsAt, GoesBy};
 ghost use Rattle.terminal.specs.Refusals.{HasNumbers, NeedsMemory, NeedsNumber};
 ghost use Rattle.terminal.specs.Terminal.{IsSpelled};
 ghost use Rattle.terminal.specs.Viewing.{patch_from, update_for};
+ghost use Rattle.terminal_steps.specs.ProfileView.{modes_of};
 ghost use Rattle.terminal_table.specs.History.{Piece, Look, Resize, Forget};
-ghost use Rattle.terminal_table.specs.Meaning.{View, new_view};
+ghost use Rattle.terminal_table.specs.Meaning.{View, new_view, new_view_with};
 ghost use Rattle.terminal_table.specs.Turns.{IsView};
 
 use cell_base::{SequenceNo, Widths};
@@ -17,7 +18,7 @@ use cell_surface::Surface;
 use escape_stream::Parser;
 use std::alloc::{AllocError, Global};
 use std::marker::Model;
-use terminal_steps::{TerminalError, TerminalState};
+use terminal_steps::{Profile, TerminalError, TerminalState};
 use terminal_viewers::patch::patch;
 use terminal_viewers::update::update;
 
@@ -42,7 +43,7 @@ impl<W: Widths> Model for Terminal<W> {
 
     ghost view = { terminal_of };
 
-    ghost invariant = { IsSound };
+    ghost invariant = { IsSound (λ w. W.width_of w) };
 }
 
 impl<W: Widths + Drop> Terminal<W> {
@@ -60,7 +61,25 @@ impl<W: Widths + Drop> Terminal<W> {
         ensures widths { IfOk result (λ t. t.surface.grid.widths ≡ widths) }
         ensures sound { IfOk result (λ t. t.is_failed ≡ false) }
     {
-        let state = TerminalState::new(alloc, width, height, widths)?;
+        Terminal::with_profile(alloc, width, height, widths, Profile::Plain)
+    }
+
+    /// A terminal as `new` makes it, but of a profile. A viewer is a plain terminal, whatever the profile of the one
+    /// that answers it.
+    pub fn with_profile(
+        alloc: Global,
+        width: usize,
+        height: usize,
+        widths: W,
+        profile: Profile,
+    ) -> Result<Terminal<W>, AllocError>
+        requires size { IsScreenSize width height }
+        ensures stands { IfOk result (λ t. StandsAt t (new_view_with (modes_of profile) width height)) }
+        ensures log { IfOk result (λ t. t.surface.log ≡ record { most = most_due width height; log = new_log }) }
+        ensures widths { IfOk result (λ t. t.surface.grid.widths ≡ widths) }
+        ensures sound { IfOk result (λ t. t.is_failed ≡ false) }
+    {
+        let state = TerminalState::with_profile(alloc, width, height, widths, profile)?;
         Ok(Terminal {
             alloc,
             parser: Parser::new(alloc),
@@ -257,7 +276,8 @@ impl<W: Widths + Drop> Terminal<W> {
 
     // A terminal that hasn't failed stands at a view, and each of its changes has an encoding.
     pub(crate) fn stands(&self)
-        ensures stands { self.now.is_failed ≡ false → (view : View) × StandsAt self.now view × IsView view }
+        ensures stands { self.now.is_failed ≡ false
+            → (view : View) × StandsAt self.now view × IsView (W.width_of self.now.surface.grid.widths) view }
         ensures spelled { self.now.is_failed ≡ false → IsSpelled self.now }
     {
         // For the contract: the invariant of the terminal is known once a field is read.

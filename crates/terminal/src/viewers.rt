@@ -42,9 +42,9 @@ use terminal_viewers::viewers::{
     updates_show_the_input, viewers_go_on_showing, viewers_read_updates,
 };
 
-/// An update for a number, fed to an idle viewer that measures widths as the terminal does and shows the terminal at
-/// that number, leaves a viewer that shows the terminal's screen, with its own saved cursor and replies as they were,
-/// and that is idle.
+/// An update for a number, fed to an idle viewer, a plain terminal that measures widths as the terminal does and shows
+/// the terminal at that number, leaves a viewer that shows the terminal's screen, with its own saved cursor and replies
+/// as they were, and that is idle.
 pub fn updates_are_shown<W: Widths + Drop>(terminal: &Terminal<W>, viewer: &Terminal<W>)
     ensures shown { (number : ℕ) (after : Terminal W)
         → CanReadSince (λ w. W.width_of w) terminal.now viewer.now number
@@ -56,14 +56,12 @@ pub fn updates_are_shown<W: Widths + Drop>(terminal: &Terminal<W>, viewer: &Term
 {
     terminal.stands();
     viewer.stands();
-    surfaces_stay_lawful(terminal.surface());
-    surfaces_stay_lawful(viewer.surface());
     viewers_read_updates();
 }
 
-/// A patch from the screen of a terminal `shown`, fed to an idle viewer that shows that screen, has the terminal's size
-/// and measures widths as it does, leaves a viewer that shows the terminal's screen, with its own saved cursor and
-/// replies as they were, and that is idle.
+/// A patch from the screen of a terminal `shown`, fed to an idle viewer, a plain terminal that shows that screen, has
+/// the terminal's size and measures widths as it does, leaves a viewer that shows the terminal's screen, with its own
+/// saved cursor and replies as they were, and that is idle.
 pub fn patches_are_shown<W: Widths + Drop>(terminal: &Terminal<W>, viewer: &Terminal<W>)
     ensures shown { (shown : Terminal W) (after : Terminal W)
         → CanReadFrom (λ w. W.width_of w) terminal.now viewer.now shown
@@ -75,8 +73,6 @@ pub fn patches_are_shown<W: Widths + Drop>(terminal: &Terminal<W>, viewer: &Term
 {
     terminal.stands();
     viewer.stands();
-    surfaces_stay_lawful(terminal.surface());
-    surfaces_stay_lawful(viewer.surface());
     viewers_read_patches();
 }
 
@@ -91,8 +87,6 @@ pub fn patches_print_the_fresh_cells<W: Widths + Drop>(terminal: &Terminal<W>, v
 {
     terminal.stands();
     viewer.stands();
-    surfaces_stay_lawful(terminal.surface());
-    surfaces_stay_lawful(viewer.surface());
     terminal_viewers::patch_laws::patches_print_the_fresh_cells();
 }
 
@@ -155,8 +149,6 @@ pub fn first_updates_tell_screens<W: Widths + Drop>(one: &Terminal<W>, other: &T
 {
     one.stands();
     other.stands();
-    surfaces_stay_lawful(one.surface());
-    surfaces_stay_lawful(other.surface());
     viewers_read_updates();
 }
 
@@ -189,11 +181,11 @@ pub fn updates_are_small<W: Widths + Drop>(terminal: &Terminal<W>)
     deltas_print_each_run_once();
 }
 
-/// The actions that `render` returns for a change, fed as bytes to an idle terminal of that size, have the change's
-/// effect on its screen, leave its saved cursor and its replies as they were, and leave it idle.
+/// The actions that `render` returns for a change, fed as bytes to an idle plain terminal of that size, have the
+/// change's effect on its screen, leave its saved cursor and its replies as they were, and leave it idle.
 pub fn renderings_are_shown<W: Widths + Drop>(viewer: &Terminal<W>)
     ensures shown { (change : ChangeValue) (actions : List StreamAction) (after : Terminal W)
-        → viewer.now.is_failed ≡ false → IsIdle viewer.now
+        → viewer.now.is_failed ≡ false → IsIdle viewer.now → viewer.now.modes ≡ None
         → rendering change (state_in viewer.now).screen.width (height (state_in viewer.now).screen) ≡ Some actions
         → IsWritable actions → GoesBy (λ w. W.width_of w) viewer.now after (Piece (stream_text actions) ∷ [])
         → state_in after
@@ -203,13 +195,12 @@ pub fn renderings_are_shown<W: Widths + Drop>(viewer: &Terminal<W>)
               change).screen;
         } }
     ensures idle { (change : ChangeValue) (actions : List StreamAction) (after : Terminal W)
-        → viewer.now.is_failed ≡ false → IsIdle viewer.now
+        → viewer.now.is_failed ≡ false → IsIdle viewer.now → viewer.now.modes ≡ None
         → rendering change (state_in viewer.now).screen.width (height (state_in viewer.now).screen) ≡ Some actions
         → IsWritable actions → GoesBy (λ w. W.width_of w) viewer.now after (Piece (stream_text actions) ∷ [])
         → IsIdle after }
 {
     viewer.stands();
-    surfaces_stay_lawful(viewer.surface());
     rendered_texts_have_the_effect();
 }
 

@@ -1,6 +1,6 @@
 -- Actions in turn, on a screen of a terminal that holds no run; texts among them.
 use Rattle.std.proofs.Common.{◌≡◌, ℕ, Bool, true, false, List, [], ◌∷◌, ◌++◌, length, map, fold, refl, sym, ap, subst, ◌∙◌, arith}
-use Rattle.std.specs.Prelude.{◌==◌, Option, if◌then◌else◌}
+use Rattle.std.specs.Prelude.{◌==◌, Option, None, if◌then◌else◌}
 use Rattle.std.specs.List.{flat_map}
 use Rattle.std.specs.Str.{chars}
 use Rattle.std.proofs.lemmas.Bool.Decides.{nat_tests}
@@ -18,6 +18,7 @@ use Rattle.terminal_table.specs.Functions.{function_of}
 use Rattle.terminal_table.specs.Steps.{run_step}
 use Rattle.terminal_table.specs.History.{Act}
 use Rattle.terminal_table.specs.Meaning.{View, event_done}
+use Rattle.terminal_table.proofs.OtherLemmas.{other_view}
 use Rattle.terminal_render.specs.Effects.{actions_done}
 use Rattle.terminal_render.specs.Texts.{part_actions, run_actions}
 
@@ -42,9 +43,9 @@ some_text : (b : ℕ) (text : List ℕ) → (length (b ∷ text) == 0) ≡ false
 some_text b text = grind (arith, nat_tests)
 
 module _ (f : List ℕ → ℕ) (saved : Option SavedCursor) (replies : List ℕ) (stream : List ℕ) where
-  -- the view of a screen with this saved cursor, these replies and this stream, in which no run is held
+  -- the view of a plain terminal's screen with this saved cursor, these replies and this stream, in which no run is held
   abbrev pub on : Screen → View
-  on screen = record { state = record { screen = screen; saved = saved; replies = replies }; stream = stream; held = [] }
+  on screen = record { state = record { screen = screen; saved = saved; replies = replies; modes = None }; stream = stream; held = [] }
 
   pub done_append : (xs ys : List StreamAction) (view : View) → actions_done f view (xs ++ ys) ≡ actions_done f (actions_done f view xs) ys
   done_append xs ys view = ap (fold (event_done f) view) (map-append Act xs ys) ∙ fold-append (event_done f) view (map Act xs) (map Act ys)
@@ -53,7 +54,9 @@ module _ (f : List ℕ → ℕ) (saved : Option SavedCursor) (replies : List ℕ
   run_done : (text : List ℕ) (s : Screen) → actions_done f (on s) (run_actions text) ≡ on (put_run f s text)
   unfolding function_of
   run_done [] s = sym (ap (λ ts. on (fold (put f) s ts)) no_clusters)
-  run_done (b ∷ text) s = λ i. record (on s) { state = if some_text b text i then (on s).state else run_step f (b ∷ text) (on s).state }
+  run_done (b ∷ text) s =
+      other_view f (record (on s) { held = b ∷ text }) (control 0) refl (λ screen. refl)
+      ∙ (λ i. record (on s) { state = if some_text b text i then (on s).state else run_step f (b ∷ text) (on s).state })
 
   return_done : (s : Screen) → actions_done f (on s) (control 13 ∷ []) ≡ on (stroke_on f s CarriageReturn)
   unfolding function_of

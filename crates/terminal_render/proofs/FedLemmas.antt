@@ -1,6 +1,6 @@
 -- Encodings that are fed as bytes: they are read as their actions, with prints split and string terminators added.
 use Rattle.std.proofs.Common.{◌≡◌, ℕ, Bool, true, false, List, [], ◌∷◌, ◌++◌, map, fold, refl, sym, ap, ◌∙◌}
-use Rattle.std.specs.Prelude.{⊤, Some, None}
+use Rattle.std.specs.Prelude.{⊤, Option, Some, None}
 use Rattle.std.specs.Str.{IsUtf8, chars}
 use Rattle.std.proofs.lemmas.List.{map-append}
 use Rattle.std.proofs.lemmas.List.Sums.{fold-append}
@@ -14,11 +14,13 @@ use Rattle.escape_stream.specs.StreamText.{closes_string, is_string_terminator, 
 use Rattle.escape_stream.specs.StreamWritable.{IsWritableAfter, IsWritable, HasTexts, string_terminator, terminator_before, characters_of, read_form_after, read_form, WritableListsReadOn, WritableListsEndOn}
 use Rattle.screen_effects.specs.Display.{Display}
 use Rattle.terminal_table.specs.Alone.{IsIdle}
-use Rattle.terminal_table.specs.Functions.{function_of}
 use Rattle.terminal_table.specs.History.{Act, Piece, events}
 use Rattle.terminal_table.specs.Meaning.{View, event_done, after}
+use Rattle.terminal_table.specs.Request.{Request}
+use Rattle.terminal_table.specs.Requests.{request_done}
 use Rattle.terminal_table.proofs.JoinLemmas.{nothing_after}
 use Rattle.terminal_table.proofs.ListLemmas.{append_nil}
+use Rattle.terminal_table.proofs.RequestLemmas.{terminator_asks}
 use Rattle.terminal_table.proofs.TextLemmas.{with_text}
 use Rattle.terminal_render.specs.Effects.{actions_done, RenderedTextsHaveTheEffect, RenderedTextsLeaveIdle}
 use Rattle.terminal_render.proofs.WholeLemmas.{have_the_effect}
@@ -30,9 +32,11 @@ module _ (f : List ℕ → ℕ) where
   joined xs ys v = ap (fold (event_done f) v) (map-append Act xs ys) ∙ fold-append (event_done f) v (map Act xs) (map Act ys)
 
   -- a string terminator does nothing where no run is held
-  terminator_done : (v : View) → v.held ≡ [] → actions_done f v (string_terminator ∷ []) ≡ v
-  unfolding function_of
-  terminator_done v e = ap (λ run. actions_done f (record v { held = run }) (string_terminator ∷ [])) e ∙ (λ i. record v { held = sym e i })
+  pub terminator_done : (v : View) → v.held ≡ [] → actions_done f v (string_terminator ∷ []) ≡ v
+  terminator_done v e =
+      ap (λ run. actions_done f (record v { held = run }) (string_terminator ∷ [])) e
+      ∙ ap (λ (request : Option Request). record v { state = request_done request v.state; held = [] }) (terminator_asks v.state.modes v.state.screen)
+      ∙ (λ i. record v { held = sym e i })
 
   added_done : (closed stands : Bool) (v : View) → (closed ≡ true → v.held ≡ []) → actions_done f v (terminator_before closed stands) ≡ v
   added_done true true v h = refl

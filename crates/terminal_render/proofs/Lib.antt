@@ -26,3 +26,8 @@ pub mod LogLemmas
 pub mod SpelledWritableLemmas
 pub mod EncodedSizeLemmas
 pub mod PrintedLemmas
+pub mod CellLemmas
+pub mod LedLemmas
+pub mod AskedLemmas
+pub mod XtermLemmas
+pub mod BehindLemmas

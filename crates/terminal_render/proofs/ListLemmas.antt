@@ -29,7 +29,7 @@ ready_after f view d change ready h same =
     let size = effect_size f d change h in
     let width : (effect f d change).screen.width ≡ view.state.screen.width = size.width ∙ ap (λ (s : Screen). s.width) same in
     let tall : height (effect f d change).screen ≡ height view.state.screen = size.tall ∙ ap (λ (s : Screen). height s) same in
-    record { lawful = record { lawful = lawful.lawful; whole = lawful.whole }; width = subst (λ n. n < 2 ^ 32) (sym width) ready.width; height = subst (λ n. n < 2 ^ 32) (sym tall) ready.height; run = ready.run }
+    record { lawful = lawful.lawful; whole = lawful.whole; width = subst (λ n. n < 2 ^ 32) (sym width) ready.width; height = subst (λ n. n < 2 ^ 32) (sym tall) ready.height; run = ready.run; plain = ready.plain }
 
 -- the parts of a list of actions: the rendering of the first change, and that of the remaining ones
 pub record Parts (found rest : Option (List StreamAction)) (actions : List StreamAction) : Type 0 where

@@ -11,19 +11,18 @@ use Rattle.screen_log.specs.LogSteps.{LogStep, Logged, Forgotten, Sized, step_of
 use Rattle.escape_stream.specs.StreamAction.{StreamAction, is_print}
 use Rattle.terminal_render.specs.Lists.{all_rendered}
 use Rattle.terminal_render.specs.Rendering.{rendering}
-use Rattle.terminal_table.specs.Functions.{function_of}
 use Rattle.terminal_table.specs.Changes.{changes}
 use Rattle.terminal_table.specs.History.{History, Event, Act, Looked, Resized, Forgot, events}
 use Rattle.terminal_table.specs.Meaning.{View, settled, event_done, after}
 use Rattle.terminal_table.specs.Logged.{run_logged, event_logged, events_logged, log_after}
 use Rattle.terminal_table.specs.Turns.{IsView, AreSizes, AreEvents}
-use Rattle.terminal_table.proofs.EventLemmas.{event_is}
+use Rattle.terminal_table.proofs.EventLemmas.{event_is, settled_is}
 use Rattle.terminal_table.proofs.PrintLemmas.{AllCut, events_are}
 use Rattle.terminal_render.specs.Spelling.{IsSpelledView, IsSpelledEvent, AreSpelledEvents, HasEncoding, HaveEncodings}
 use Rattle.terminal_render.proofs.SpelledPenLemmas.{map_some, then_some}
 use Rattle.terminal_render.proofs.ChangeLemmas.{encodings_append}
 use Rattle.terminal_render.proofs.StreamLemmas.{events_spelled}
-use Rattle.terminal_render.proofs.ViewLemmas.{HasSize, AreEncoded, settled_is, settled_size, step_size, moved_has, event_encoded, event_spelled}
+use Rattle.terminal_render.proofs.ViewLemmas.{HasSize, AreEncoded, settled_size, acted_size, moved_has, event_encoded, event_spelled}
 
 -- ---- lists
 
@@ -71,17 +70,17 @@ abbrev KeepsSpelled : View → Sized → Type 0
 KeepsSpelled v s = HaveEncodings v.state.screen.width (height v.state.screen) s.log.entries
 
 -- after the steps that an event logs the log's changes have encodings, at the size of the screen before the event
-logged_keeps : (width_of : List ℕ → ℕ) (v : View) (event : Event) (s : Sized) → IsView v → IsSpelledView v → IsSpelledEvent event → KeepsSpelled v s → KeepsSpelled v (fold step_of_kept s (event_logged width_of v event))
+logged_keeps : (width_of : List ℕ → ℕ) (v : View) (event : Event) (s : Sized) → IsView width_of v → IsSpelledView v → IsSpelledEvent event → KeepsSpelled v s → KeepsSpelled v (fold step_of_kept s (event_logged width_of v event))
 logged_keeps width_of v event s h p q k = steps_have v.state.screen.width (height v.state.screen) (event_logged width_of v event) s (event_encoded width_of v event h p q) k
 
-act_size : (width_of : List ℕ → ℕ) (v : View) (action : StreamAction) → IsView v → HasSize v.state.screen (event_done width_of v (Act action)).state.screen
+act_size : (width_of : List ℕ → ℕ) (v : View) (action : StreamAction) → IsView width_of v → HasSize v.state.screen (event_done width_of v (Act action)).state.screen
 act_size width_of v action h =
     let one = settled_size width_of v h in
-    let other = step_size (function_of action) (settled width_of v).state (settled_is width_of v h).lawful in
+    let other = acted_size width_of action (settled width_of v).state (settled_is width_of v h).lawful in
     cond_both (is_print action) _ _ (λ (x : View). HasSize v.state.screen x.state.screen) (λ e. record { wide = refl; tall = refl })
     (λ e. record { wide = sym (other.wide ∙ one.wide); tall = sym (other.tall ∙ one.tall) })
 
-pub event_keeps : (width_of : List ℕ → ℕ) (v : View) (event : Event) (s : Sized) → IsView v → IsSpelledView v → IsSpelledEvent event → KeepsSpelled v s → KeepsSpelled (event_done width_of v event) (fold step_of_kept s (event_logged width_of v event))
+pub event_keeps : (width_of : List ℕ → ℕ) (v : View) (event : Event) (s : Sized) → IsView width_of v → IsSpelledView v → IsSpelledEvent event → KeepsSpelled v s → KeepsSpelled (event_done width_of v event) (fold step_of_kept s (event_logged width_of v event))
 event_keeps width_of v (Act action) s h p q k =
     moved_has v.state.screen (event_done width_of v (Act action)).state.screen _ (act_size width_of v action h) (logged_keeps width_of v (Act action) s h p q k)
 event_keeps width_of v Looked s h p q k =
@@ -93,13 +92,13 @@ event_keeps width_of v (Resized width tall) s h p q k =
     (emptied _ _ after.log.number after.log.entries)
 event_keeps width_of v (Forgot number) s h p q k = logged_keeps width_of v (Forgot number) s h p q k
 
-all_keep : (width_of : List ℕ → ℕ) (v : View) (es : List Event) (s : Sized) → IsView v → AreEvents es → IsSpelledView v → AreSpelledEvents es → KeepsSpelled v s → KeepsSpelled (fold (event_done width_of) v es) (fold step_of_kept s (events_logged width_of v es))
+all_keep : (width_of : List ℕ → ℕ) (v : View) (es : List Event) (s : Sized) → IsView width_of v → AreEvents es → IsSpelledView v → AreSpelledEvents es → KeepsSpelled v s → KeepsSpelled (fold (event_done width_of) v es) (fold step_of_kept s (events_logged width_of v es))
 all_keep width_of v [] s h l p q k = k
 all_keep width_of v (event ∷ es) s h l p q k =
     let next = event_done width_of v event in
     subst (λ (x : Sized). KeepsSpelled (fold (event_done width_of) next es) x) (sym (fold-append step_of_kept s (event_logged width_of v event) (events_logged width_of next es)))
     (all_keep width_of next es (fold step_of_kept s (event_logged width_of v event)) (event_is width_of v event h l.0) l.1 (event_spelled width_of v event h l.0 p q.0) q.1 (event_keeps width_of v event s h p q.0 k))
 
-pub history_keeps : AllCut → (width_of : List ℕ → ℕ) (v : View) (history : History) (s : Sized) → IsView v → AreSizes history → IsSpelledView v → HaveEncodings v.state.screen.width (height v.state.screen) s.log.entries
+pub history_keeps : AllCut → (width_of : List ℕ → ℕ) (v : View) (history : History) (s : Sized) → IsView width_of v → AreSizes history → IsSpelledView v → HaveEncodings v.state.screen.width (height v.state.screen) s.log.entries
     → HaveEncodings (after width_of v history).state.screen.width (height (after width_of v history).state.screen) (log_after width_of v s history).log.entries
 history_keeps cut width_of v history s h l p k = all_keep width_of v (events v.stream history) s h (events_are cut v.stream history l) p (events_spelled cut v.stream history) k

@@ -252,11 +252,11 @@ events_spelled cut stream (Forget number ∷ history) = (tt, events_spelled cut 
 
 -- ---- histories
 
-all_spelled : (width_of : List ℕ → ℕ) (v : View) (es : List Event) → IsView v → AreEvents es → IsSpelledView v → AreSpelledEvents es → IsSpelledView (fold (event_done width_of) v es)
+all_spelled : (width_of : List ℕ → ℕ) (v : View) (es : List Event) → IsView width_of v → AreEvents es → IsSpelledView v → AreSpelledEvents es → IsSpelledView (fold (event_done width_of) v es)
 all_spelled width_of v [] h k p q = p
 all_spelled width_of v (e ∷ es) h k p q = all_spelled width_of (event_done width_of v e) es (event_is width_of v e h k.0) k.1 (event_spelled width_of v e h k.0 p q.0) q.1
 
-pub history_spelled : AllCut → (width_of : List ℕ → ℕ) (v : View) (history : History) → IsView v → AreSizes history → IsSpelledView v → IsSpelledView (after width_of v history)
+pub history_spelled : AllCut → (width_of : List ℕ → ℕ) (v : View) (history : History) → IsView width_of v → AreSizes history → IsSpelledView v → IsSpelledView (after width_of v history)
 history_spelled cut width_of v history h k p =
     let kept = all_spelled width_of v (events v.stream history) h (events_are cut v.stream history k) p (events_spelled cut v.stream history) in
     assumption kept

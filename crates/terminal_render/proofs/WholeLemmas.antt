@@ -150,13 +150,13 @@ of_some P found x e h = subst (λ o. IfSome o P) e h
 pub have_the_effect : RenderingsHaveTheEffect
 have_the_effect f view d change actions ready same stands =
     let s : Screen = view.state.screen in
-    let h : IsScreen d.screen = subst IsScreen (sym same) ready.lawful.lawful in
-    let w : All IsWhole d.screen.rows = subst (λ (x : Screen). All IsWhole x.rows) (sym same) ready.lawful.whole in
+    let h : IsScreen d.screen = subst IsScreen (sym same) ready.lawful in
+    let w : All IsWhole d.screen.rows = subst (λ (x : Screen). All IsWhole x.rows) (sym same) ready.whole in
     let a : d.screen.width < 2 ^ 32 = subst (λ (x : Screen). x.width < 2 ^ 32) (sym same) ready.width in
     let b : height d.screen < 2 ^ 32 = subst (λ (x : Screen). height x < 2 ^ 32) (sym same) ready.height in
     let found : rendering change d.screen.width (height d.screen) ≡ Some actions = ap (λ (x : Screen). rendering change x.width (height x)) same ∙ stands in
     let made = of_some (λ xs. actions_done f (on f view.state.saved view.state.replies view.stream d.screen) xs ≡ on f view.state.saved view.state.replies view.stream (effect f d change).screen) (rendering change d.screen.width (height d.screen)) actions found
     (makes f view.state.saved view.state.replies view.stream d change h w a b) in
-    let here : view ≡ on f view.state.saved view.state.replies view.stream d.screen = λ i. record view { state = record view.state { screen = sym same i }; held = ready.run i } in
-    let there : on f view.state.saved view.state.replies view.stream (effect f d change).screen ≡ with_change f view d change = λ i. record (with_change f view d change) { held = sym ready.run i } in
+    let here : view ≡ on f view.state.saved view.state.replies view.stream d.screen = λ i. record view { state = record view.state { screen = sym same i; modes = ready.plain i }; held = ready.run i } in
+    let there : on f view.state.saved view.state.replies view.stream (effect f d change).screen ≡ with_change f view d change = λ i. record (with_change f view d change) { state = record (with_change f view d change).state { modes = sym ready.plain i }; held = sym ready.run i } in
     ap (λ v. actions_done f v actions) here ∙ made ∙ there

@@ -1,14 +1,14 @@
 -- What the laws say of actions that encode a change: they do to the screen what the change does, and no run is held
 -- after them.
-use Rattle.std.specs.Prelude.{◌≡◌, ℕ, ◌<◌, ◌^◌, List, [], ◌∷◌, ◌++◌, map, fold, Some}
-use Rattle.cell_base.specs.Screen.{height}
+use Rattle.std.specs.Prelude.{◌≡◌, ℕ, ◌<◌, ◌^◌, All, List, [], ◌∷◌, ◌++◌, map, fold, Some, None}
+use Rattle.cell_base.specs.Screen.{IsScreen, height}
+use Rattle.cell_base.specs.WholeRow.{IsWhole}
 use Rattle.screen_change.specs.ChangeValue.{ChangeValue}
 use Rattle.escape_stream.specs.StreamAction.{StreamAction}
 use Rattle.escape_stream.specs.StreamText.{stream_text}
 use Rattle.escape_stream.specs.StreamWritable.{IsWritable}
 use Rattle.screen_effects.specs.Display.{Display}
 use Rattle.screen_effects.specs.Effect.{effect}
-use Rattle.terminal_table.specs.State.{IsState}
 use Rattle.terminal_table.specs.Alone.{IsIdle}
 use Rattle.terminal_table.specs.History.{Act, Piece}
 use Rattle.terminal_table.specs.Meaning.{View, event_done, after}
@@ -23,13 +23,15 @@ abbrev pub with_change : (List ℕ → ℕ) → View → Display → ChangeValue
 with_change width_of view display change =
     record view { state = record view.state { screen = (effect width_of display change).screen } }
 
--- a terminal that can take changes: its state is lawful, its width and its height are less than 2^32, and no run is
--- held
+-- a plain terminal that can take changes: its screen is lawful and its rows are whole, its width and its height are less
+-- than 2^32, and no run is held
 pub record IsReady (view : View) : Type 0 where
-  pub lawful : IsState view.state
+  pub lawful : IsScreen view.state.screen
+  pub whole : All IsWhole view.state.screen.rows
   pub width : view.state.screen.width < 2 ^ 32
   pub height : height view.state.screen < 2 ^ 32
   pub run : view.held ≡ []
+  pub plain : view.state.modes ≡ None
 
 -- the encoding of a change has on the screen of a ready terminal the effect that the change has on any display of that
 -- screen, and no other effect; the saved cursor and the replies stay, and no run is held

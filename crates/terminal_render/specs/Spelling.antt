@@ -15,11 +15,12 @@ use Rattle.cell_base.specs.Screen.{Screen, height}
 use Rattle.screen_change.specs.ChangeValue.{ChangeValue, Attribute, AllAttributes, Text, ClearScreen, ClearToEndOfLine}
 use Rattle.screen_change.specs.ChangeValue.{ClearToEndOfScreen, CursorPosition, CursorShape, Title}
 use Rattle.csi_codec.specs.Writable.{IsWritableSgr}
-use Rattle.escape_stream.specs.StreamAction.{printed}
+use Rattle.escape_stream.specs.StreamAction.{StreamAction, printed}
 use Rattle.terminal_render.specs.Carried.{IsChange}
 use Rattle.terminal_render.specs.Links.{is_carried, is_plain_text}
 use Rattle.terminal_render.specs.Rendering.{rendering}
-use Rattle.terminal_table.specs.State.{SavedCursor, State}
+use Rattle.terminal_table.specs.State.{SavedCursor, State, IsState}
+use Rattle.terminal_table.specs.Requests.{acted_changes}
 use Rattle.terminal_table.specs.Functions as table
 use Rattle.terminal_table.specs.Functions.{ControlFunction, function_of}
 use Rattle.terminal_table.specs.History.{Event, Act}
@@ -146,6 +147,14 @@ pub record HasEncoding (width height : ℕ) (change : ChangeValue) : Type 0 wher
 abbrev pub HaveEncodings : ℕ → ℕ → List ChangeValue → Type 0
 HaveEncodings width height [] = ⊤
 HaveEncodings width height (change ∷ changes) = HasEncoding width height change × HaveEncodings width height changes
+
+-- the changes that are logged for an action that asks for something spelled have encodings at the size of the screen
+-- before it: the third fact that all above asks of the terminal's table
+abbrev pub ActionsHaveEncodings : Type 0
+ActionsHaveEncodings =
+    (width_of : List ℕ → ℕ) (action : StreamAction) (state : State) → IsState width_of state → IsSpelledState state
+    → IsSpelledRequest (function_of action)
+    → HaveEncodings state.screen.width (height state.screen) (acted_changes action state)
 
 -- a change that is left out of updates: the position of a pending wrap, or a shape of the cursor
 abbrev pub IsLeftOut : Screen → ChangeValue → Type 0

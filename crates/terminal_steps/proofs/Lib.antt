@@ -3,3 +3,4 @@ pub mod NumberLemmas
 pub mod TakeLemmas
 pub mod SpellLemmas
 pub mod MemoryLemmas
+pub mod RequestLemmas

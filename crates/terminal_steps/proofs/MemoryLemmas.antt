@@ -1,6 +1,6 @@
 -- Why actions are refused memory.
-use Rattle.std.proofs.Common.{◌≡◌, ℕ, ◌<◌, ◌^◌, Bool, true, false, List, [], ◌∷◌, ◌++◌, length, map, fold, inl, inr, refl, sym, ap, subst, ◌∙◌, arith}
-use Rattle.std.specs.Prelude.{◌==◌, ◌⊎◌, Option, if◌then◌else◌}
+use Rattle.std.proofs.Common.{◌≡◌, ℕ, ◌<◌, ◌^◌, Bool, true, false, List, [], ◌∷◌, ◌++◌, length, fold, inl, inr, refl, sym, ap, subst, ◌∙◌, arith}
+use Rattle.std.specs.Prelude.{◌==◌, ◌⊎◌, Option, None, if◌then◌else◌}
 use Rattle.std.specs.List.{AllByRecursion}
 use Rattle.std.proofs.lemmas.List.{map-append}
 use Rattle.cell_surface.specs.declared.error.SurfaceError.{SurfaceError}
@@ -10,17 +10,20 @@ use Rattle.escape_stream.specs.Items.{Item, Text, Single, item_of, items, items_
 use Rattle.escape_stream.specs.Pieces.{Piece}
 use Rattle.escape_stream.specs.PiecesView.{BytesTakeMemory, PerformsUpToMemory}
 use Rattle.escape_stream.specs.Performing.{StopsAt, HaltsAt}
-use Rattle.escape_stream.specs.StreamAction.{StreamAction, is_print, printed}
+use Rattle.escape_stream.specs.StreamAction.{StreamAction}
 use Rattle.escape_stream.specs.declared.perform.Halted.{Halted}
 use Rattle.escape_stream.specs.declared.perform.Halted.TheVariants as halted
 use Rattle.escape_stream.proofs.StepLemmas.{takes_some}
-use Rattle.terminal_table.specs.Changes.{changes_of, run_change}
-use Rattle.terminal_table.specs.Functions.{ControlFunction, function_of}
+use Rattle.terminal_table.specs.Changes.{run_change}
 use Rattle.terminal_table.specs.History.{Act}
-use Rattle.terminal_table.specs.Logged.{event_logged, events_logged, run_logged}
-use Rattle.terminal_table.specs.Meaning.{View, event_done, settled}
-use Rattle.terminal_table.specs.Steps.{step_of}
+use Rattle.terminal_table.specs.Logged.{event_logged, events_logged}
+use Rattle.terminal_table.specs.Meaning.{View, event_done}
+use Rattle.terminal_table.specs.Modes.{Modes}
+use Rattle.terminal_table.specs.Request.{Request}
+use Rattle.terminal_table.specs.Requests.{AsksForNothing, request_of}
 use Rattle.terminal_table.specs.Turns.{AreEvents}
+use Rattle.terminal_table.proofs.ModesLemmas.{settled_modes}
+use Rattle.terminal_table.proofs.OtherLemmas.{asked_settled, other_logged, other_view}
 use Rattle.terminal_steps.specs.Events.{view_of, IsReady}
 use Rattle.terminal_steps.specs.Memory.{TakesMemory, TakesOwnMemory, number_settled}
 use Rattle.terminal_steps.specs.Refusals.{of_halted}
@@ -30,38 +33,42 @@ use Rattle.terminal_steps.specs.declared.state.TerminalState.{TerminalState}
 use Rattle.terminal_steps.proofs.NumberLemmas.{stopped_had}
 use Rattle.terminal_steps.proofs.TakeLemmas.{are_prefix, leads}
 
--- ---- the steps that an action logs
-
-act_logged : (f : List ℕ → ℕ) (v : View) (action : StreamAction) → is_print action ≡ false
-    → event_logged f v (Act action) ≡ run_logged v ++ map Logged (changes_of (function_of action) (settled f v).state)
-act_logged f v action p = ap (λ (b : Bool). if b then [] else run_logged v ++ map Logged (changes_of (function_of action) (settled f v).state)) p
-
 -- ---- items that ask for nothing
 
-quiet_held : (f : List ℕ → ℕ) (v : View) (action : StreamAction) → is_print action ≡ false → (event_done f v (Act action)).held ≡ []
-quiet_held f v action p =
-    ap (λ (b : Bool). (if b then record v { held = v.held ++ printed action } else record (settled f v) { state = step_of (function_of action) (settled f v).state }).held) p
+-- a view with some modes or none, which holds no run
+record IsQuiet (modes : Option Modes) (v : View) : Type 0 where
+  run : v.held ≡ []
+  same : v.state.modes ≡ modes
 
-quiet_rest : (f : List ℕ → ℕ) (v : View) (done left : List Item) → AllByRecursion AsksNothing (done ++ left) → v.held ≡ []
-    → ((fold (event_done f) v (item_events done)).held ≡ []) × AllByRecursion AsksNothing left
-quiet_rest f v [] left all none = (none, all)
-quiet_rest f v (Text text ∷ done) left all none = absurd all.0
-quiet_rest f v (Single action ∷ done) left all none = quiet_rest f (event_done f v (Act action)) done left all.1 (quiet_held f v action all.0.0)
+-- what is asked of such a view
+asked : (modes : Option Modes) (v : View) (action : StreamAction) → IsQuiet modes v → AsksForNothing modes action → AsksForNothing v.state.modes action
+asked modes v action q e screen = ap (λ (m : Option Modes). request_of m screen action) q.same ∙ e screen
 
-quiet_item : (f : List ℕ → ℕ) (v : View) (log : Sized) (item : Item) (failed : Bool) → AsksNothing item → v.held ≡ [] → TakesMemory f v log (item_event item) failed → ⊥
-quiet_item f v log (Text text) failed asks none takes = asks
-quiet_item f v log (Single action) failed asks none (inl prints) = let clash : true ≡ false = sym prints ∙ asks.0 in cc
-quiet_item f v log (Single action) failed asks none (inr (inl own)) = subst (λ (x : Option ControlFunction). TakesOwnMemory x (number_settled v log)) asks.1 own
-quiet_item f v log (Single action) failed asks none (inr (inr refused)) =
+quiet_next : (f : List ℕ → ℕ) (modes : Option Modes) (v : View) (action : StreamAction) → AsksNothing modes (Single action) → IsQuiet modes v → IsQuiet modes (event_done f v (Act action))
+quiet_next f modes v action asks q =
+    subst (IsQuiet modes) (sym (other_view f v action asks.0 (asked modes v action q asks.1))) (record { run = refl; same = settled_modes f v ∙ q.same })
+
+quiet_rest : (f : List ℕ → ℕ) (modes : Option Modes) (v : View) (done left : List Item) → AllByRecursion (AsksNothing modes) (done ++ left) → IsQuiet modes v
+    → IsQuiet modes (fold (event_done f) v (item_events done)) × AllByRecursion (AsksNothing modes) left
+quiet_rest f modes v [] left all q = (q, all)
+quiet_rest f modes v (Text text ∷ done) left all q = absurd all.0
+quiet_rest f modes v (Single action ∷ done) left all q = quiet_rest f modes (event_done f v (Act action)) done left all.1 (quiet_next f modes v action all.0 q)
+
+quiet_item : (f : List ℕ → ℕ) (modes : Option Modes) (v : View) (log : Sized) (item : Item) (failed : Bool) → AsksNothing modes item → IsQuiet modes v → TakesMemory f v log (item_event item) failed → ⊥
+quiet_item f modes v log (Text text) failed asks q takes = asks
+quiet_item f modes v log (Single action) failed asks q (inl prints) = let clash : true ≡ false = sym prints ∙ asks.0 in cc
+quiet_item f modes v log (Single action) failed asks q (inr (inl own)) = subst (λ (x : Option Request). TakesOwnMemory x (number_settled v log)) (asked_settled f v action (asked modes v action q asks.1)) own
+quiet_item f modes v log (Single action) failed asks q (inr (inr refused)) =
     let logged : event_logged f v (Act action) ≡ []
-    = act_logged f v action asks.0 ∙ (λ i. (if length (none i) == 0 then [] else Logged (run_change (none i)) ∷ []) ++ map Logged (changes_of (asks.1 i) (settled f v).state)) in
+    = other_logged f v action asks.0 (asked modes v action q asks.1) ∙ (λ i. if length (q.run i) == 0 then [] else Logged (run_change (q.run i)) ∷ []) in
     let some : 0 < length {A = LogStep} [] = subst (λ (steps : List LogStep). 0 < length steps) logged refused.0 in
     absurd (omega (arith, some))
 
-pub quiet_items : (f : List ℕ → ℕ) (v : View) (log : Sized) (items : List Item) (failed : Bool) → v.held ≡ [] → AllByRecursion AsksNothing items → SomeNeedsMemory f v log items failed → ⊥
+pub quiet_items : (f : List ℕ → ℕ) (v : View) (log : Sized) (items : List Item) (failed : Bool) → v.held ≡ [] → AllByRecursion (AsksNothing v.state.modes) items → SomeNeedsMemory f v log items failed → ⊥
 quiet_items f v log items failed none all some =
-    let rest = quiet_rest f v some.done (some.item ∷ some.left) (subst (AllByRecursion AsksNothing) some.whole all) none in
-    quiet_item f (fold (event_done f) v (item_events some.done)) (fold step_of_kept log (events_logged f v (item_events some.done))) some.item failed rest.1.0 rest.0 some.takes
+    let modes : Option Modes = v.state.modes in
+    let rest = quiet_rest f modes v some.done (some.item ∷ some.left) (subst (AllByRecursion (AsksNothing modes)) some.whole all) (record { run = none; same = refl }) in
+    quiet_item f modes (fold (event_done f) v (item_events some.done)) (fold step_of_kept log (events_logged f v (item_events some.done))) some.item failed rest.1.0 rest.0 some.takes
 
 -- where the parser is refused memory, the bytes take some
 pub bytes_take : (f : List ℕ → ℕ) (view : View) (log : Sized) (stream bytes : List ℕ) → ParserNeedsMemory f view log stream bytes → BytesTakeMemory stream bytes
@@ -74,7 +81,7 @@ module _ {W : Type 0} (width_of : W → List ℕ → ℕ) where
   -- ---- the causes of a call's errors
 
   stopped_memory : (t last : TerminalState W) (items : List Item) → StopsAt (DoesItem width_of) (RefusesItem width_of) t items refusal.Memory last
-      → IsReady t → AreEvents (item_events items) → SomeNeedsMemory (of t) (view_of t) t.surface.log items last.surface.is_failed
+      → IsReady width_of t → AreEvents (item_events items) → SomeNeedsMemory (of t) (view_of t) t.surface.log items last.surface.is_failed
   stopped_memory t last items s ready events =
       let had = stopped_had width_of t s.before s.done s.left s.item items s.whole s.performed ready events in
       record {
@@ -88,7 +95,7 @@ module _ {W : Type 0} (width_of : W → List ℕ → ℕ) where
 
   -- the parser is refused some
   early_memory : (t last : TerminalState W) (stream bytes : List ℕ) → PerformsUpToMemory (DoesItem width_of) t stream bytes last
-      → IsReady t → AreEvents (item_events (items stream bytes)) → ParserNeedsMemory (of t) (view_of t) t.surface.log stream bytes
+      → IsReady width_of t → AreEvents (item_events (items stream bytes)) → ParserNeedsMemory (of t) (view_of t) t.surface.log stream bytes
   early_memory t last stream bytes p ready events =
       let all : item_events (items stream bytes) ≡ item_events (items_of p.done) ++ item_events (items_of p.left)
       = ap (λ (ps : List Piece). item_events (items_of ps)) p.whole ∙ ap item_events (map-append item_of p.done p.left) ∙ map-append item_event (items_of p.done) (items_of p.left) in
@@ -103,7 +110,7 @@ module _ {W : Type 0} (width_of : W → List ℕ → ℕ) where
 
   pub halted_memory : (t last : TerminalState W) (stream bytes : List ℕ) (h : Halted SurfaceError) → of_halted h ≡ Memory
       → (h ≡ halted.Memory → PerformsUpToMemory (DoesItem width_of) t stream bytes last)
-      → HaltsAt (DoesItem width_of) (RefusesItem width_of) t (items stream bytes) h last → IsReady t → AreEvents (item_events (items stream bytes))
+      → HaltsAt (DoesItem width_of) (RefusesItem width_of) t (items stream bytes) h last → IsReady width_of t → AreEvents (item_events (items stream bytes))
       → ParserNeedsMemory (of t) (view_of t) t.surface.log stream bytes ⊎ SomeNeedsMemory (of t) (view_of t) t.surface.log (items stream bytes) last.surface.is_failed
   halted_memory t last stream bytes halted.Failed e m s ready events = cc
   halted_memory t last stream bytes halted.Memory e m s ready events = inl (early_memory t last stream bytes (m refl) ready events)

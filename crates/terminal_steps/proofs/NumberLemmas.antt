@@ -1,22 +1,26 @@
 -- A log's number never falls, so an event that is refused a number leads past the last one.
-use Rattle.std.proofs.Common.{◌≡◌, ◌≢◌, ℕ, ◌<◌, ◌≤◌, ◌-◌, ◌^◌, Bool, true, false, List, [], ◌∷◌, ◌++◌, fold, refl, sym, ap, subst, ◌∙◌, arith}
-use Rattle.std.specs.Prelude.{nat_lt}
+use Rattle.std.proofs.Common.{◌≡◌, ◌≢◌, ℕ, ◌<◌, ◌≤◌, ◌+◌, ◌-◌, ◌^◌, Bool, true, false, List, [], ◌∷◌, ◌++◌, length, map, fold, refl, sym, ap, subst, ◌∙◌, arith}
+use Rattle.std.specs.Prelude.{nat_lt, if◌then◌else◌, option_map}
 use Rattle.std.specs.String.{string_bytes}
 use Rattle.std.specs.List.{FoldsTo}
 use Rattle.std.proofs.lemmas.List.Sums.{fold-append}
 use Rattle.screen_change.specs.ChangeValue.{ChangeValue}
-use Rattle.cell_surface.specs.Surface.{Surface, shown_by, Resizes}
+use Rattle.cell_surface.specs.Surface.{Surface, number_of, shown_by, Resizes}
 use Rattle.screen_log.specs.Log.{most_due, forgotten, resized_log}
 use Rattle.screen_log.specs.LogSteps as log
 use Rattle.screen_log.specs.LogSteps.{LogStep, Logged, Forgotten, Sized, step_of_kept}
+use Rattle.escape_stream.specs.StreamAction.{StreamAction, is_print}
 use Rattle.screen_effects.specs.Display.{IsDisplay}
 use Rattle.screen_effects.proofs.EffectLaws.{resized_is}
-use Rattle.terminal_table.specs.History.{Event, Looked, Resized}
-use Rattle.terminal_table.specs.Meaning.{View, event_done, with_size}
+use Rattle.terminal_table.specs.History.{Event, Act, Looked, Resized}
+use Rattle.terminal_table.specs.Meaning.{View, event_done, settled, with_size}
+use Rattle.terminal_table.specs.Modes.{resized_modes}
+use Rattle.terminal_table.specs.Requests.{acted_changes}
 use Rattle.terminal_table.specs.Logged.{run_logged, event_logged, events_logged}
 use Rattle.terminal_table.specs.Turns.{AreEvents, IsPrinted}
 use Rattle.terminal_table.proofs.JoinLemmas.{events_logged-append}
 use Rattle.terminal_table.proofs.ListLemmas.{append_nil}
+use Rattle.terminal_table.proofs.StateLemmas.{size_is}
 use Rattle.std.proofs.lemmas.List.{map-append}
 use Rattle.cell_surface.specs.declared.error.SurfaceError.{SurfaceError}
 use Rattle.cell_surface.specs.declared.error.SurfaceError.TheVariants as refusal
@@ -27,9 +31,10 @@ use Rattle.escape_stream.specs.declared.perform.Halted.TheVariants as halted
 use Rattle.terminal_steps.specs.Refusals.{of_halted}
 use Rattle.terminal_steps.specs.Items.{item_event, item_events, DoesItem, RefusesItem}
 use Rattle.terminal_steps.specs.declared.error.TerminalError.TheVariants.{Failed, Number}
+use Rattle.terminal_steps.proofs.StateLemmas.{lawful_after}
 use Rattle.terminal_steps.proofs.TakeLemmas.{are_prefix, are_after, leads}
+use Rattle.terminal_steps.specs.Events.{view_of, Does, IsReady, Had, NeedsNumber, final_log}
 use Rattle.terminal_steps.specs.TerminalStates.{state_of}
-use Rattle.terminal_steps.specs.Events.{view_of, IsReady, Had, NeedsNumber, final_log}
 use Rattle.terminal_steps.specs.declared.state.TerminalState.{TerminalState}
 
 pub step_number : (s : Sized) (step : LogStep) → s.log.number ≤ (step_of_kept s step).log.number
@@ -48,6 +53,10 @@ step_number s (log.Resized next) = by_entries s.log.entries refl
 pub fold_number : (steps : List LogStep) (s : Sized) → s.log.number ≤ (fold step_of_kept s steps).log.number
 fold_number [] s = omega arith
 fold_number (step ∷ steps) s = let one = step_number s step in let more = fold_number steps (step_of_kept s step) in omega arith
+
+logged_number : (changes : List ChangeValue) (s : Sized) → (fold step_of_kept s (map Logged changes)).log.number ≡ s.log.number + length changes
+logged_number [] s = omega arith
+logged_number (change ∷ changes) s = logged_number changes (step_of_kept s (Logged change)) ∙ omega arith
 
 abbrev Past : Sized → Type 0
 Past s = 2 ^ 64 ≤ s.log.number
@@ -70,6 +79,31 @@ module _ {W : Type 0} (width_of : W → List ℕ → ℕ) where
   resized_after : (t : TerminalState W) (width height : ℕ) → final_log width_of t (Resized width height ∷ []) ≡ step_of_kept (final_log width_of t (Looked ∷ [])) (log.Resized (most_due width height))
   resized_after t width height = after_prefix t (run_logged (view_of t)) (log.Resized (most_due width height) ∷ [])
 
+  -- ---- the log of an action: the log of a look, and then its changes
+
+  act_after : (t : TerminalState W) (action : StreamAction) → is_print action ≡ false
+      → final_log width_of t (Act action ∷ []) ≡ fold step_of_kept (final_log width_of t (Looked ∷ [])) (map Logged (acted_changes action (settled (of t) (view_of t)).state))
+  act_after t action p =
+      let changes : List LogStep = map Logged (acted_changes action (settled (of t) (view_of t)).state) in
+      ap (λ (b : Bool). fold step_of_kept t.surface.log ((if b then [] else run_logged (view_of t) ++ changes) ++ [])) p
+      ∙ after_prefix t (run_logged (view_of t)) changes
+
+  -- where the run has no number, the action has none
+  pub looked_past : (t : TerminalState W) (action : StreamAction) → is_print action ≡ false → NeedsNumber width_of t (Looked ∷ []) → NeedsNumber width_of t (Act action ∷ [])
+  looked_past t action p needs = λ ready events.
+      subst Past (sym (act_after t action p))
+      (past_after (final_log width_of t (Looked ∷ [])) (map Logged (acted_changes action (settled (of t) (view_of t)).state)) (needs ready (tt, tt)))
+
+  -- nor where one of its changes has none
+  pub acted_past : (t u : TerminalState W) (action : StreamAction) → is_print action ≡ false → Does width_of t u (Looked ∷ [])
+      → 2 ^ 64 ≤ number_of u.surface + length (acted_changes action (state_of u.surface u.saved u.replies.items u.modes)) → NeedsNumber width_of t (Act action ∷ [])
+  acted_past t u action p does past = λ ready events.
+      let had = does ready (tt, tt) in
+      let changes : List ChangeValue = acted_changes action (view_of u).state in
+      let there : Past (fold step_of_kept u.surface.log (map Logged changes)) = subst (λ n. 2 ^ 64 ≤ n) (sym (logged_number changes u.surface.log)) past in
+      subst Past (sym (act_after t action p))
+      (subst Past (λ i. fold step_of_kept (had.log i) (map Logged (acted_changes action (had.view i).state))) there)
+
   -- ---- other sizes
 
   resized_fits : (s t : Surface W) (width height : ℕ) → Resizes width height s t → s.is_failed ≡ false → ((s.is_failed ≡ false) × (s.log.log.number ≡ 2 ^ 64 - 1) × (s.log.log.entries ≢ []) → ⊥)
@@ -81,11 +115,11 @@ module _ {W : Type 0} (width_of : W → List ℕ → ℕ) where
       by_entries (c ∷ cs) e = rw e (let some : s.log.log.entries ≢ [] = λ none. cc in let last : s.log.log.number ≢ 2 ^ 64 - 1 = λ n. numbers (stays, n, some) in omega (arith, fits, last))
 
   pub resized_had : (t u : TerminalState W) (s : Surface W) (r : TerminalState W) (width height : ℕ) → 0 < width → 0 < height
-      → r.surface ≡ s → string_bytes r.held ≡ string_bytes u.held → r.saved ≡ u.saved → r.replies.items ≡ u.replies.items
+      → r.surface ≡ s → string_bytes r.held ≡ string_bytes u.held → r.saved ≡ u.saved → r.replies.items ≡ u.replies.items → r.modes ≡ option_map resized_modes u.modes
       → Had width_of t u (Looked ∷ [])
       → Resizes width height u.surface s → ((u.surface.is_failed ≡ false) × (u.surface.log.log.number ≡ 2 ^ 64 - 1) × (u.surface.log.log.entries ≢ []) → ⊥)
       → Had width_of t r (Resized width height ∷ [])
-  resized_had t u s r width height w k e n v q h a numbers = record {
+  resized_had t u s r width height w k e n v q m h a numbers = record {
     view = (λ i. record { state = states i; stream = []; held = n i }) ∙ ap {B = View} (λ (x : View). record x { state = with_size width height x.state }) h.view;
     log = ap (λ x. x.log) e ∙ a.log ∙ ap (λ l. step_of_kept l (log.Resized (most_due width height))) h.log ∙ sym (resized_after t width height);
     widths = ap (λ x. x.grid.widths) e ∙ a.widths ∙ h.widths;
@@ -93,13 +127,14 @@ module _ {W : Type 0} (width_of : W → List ℕ → ℕ) where
     ready = record {
       stays = ap (λ x. x.is_failed) e ∙ a.stays;
       shown = subst (λ x. IsDisplay (shown_by x)) (sym e) (subst IsDisplay (sym a.shown) (resized_is width height (shown_by u.surface) w k h.ready.shown));
+      lawful = lawful_after width_of u r (with_size width height (view_of u).state) (ap (λ x. x.grid.widths) e ∙ a.widths) states (size_is (of u) width height (view_of u).state w k h.ready.lawful);
       fits = subst (λ (x : Surface W). x.log.log.number < 2 ^ 64) (sym e) (resized_fits u.surface s width height a h.ready.stays numbers h.ready.fits);
       plain = subst IsPrinted (sym n) h.ready.plain;
     };
   }
     where
-      states : state_of r.surface r.saved r.replies.items ≡ with_size width height (state_of u.surface u.saved u.replies.items)
-      states = λ i. record { screen = (ap (λ x. (shown_by x).screen) e ∙ ap (λ d. d.screen) a.shown) i; saved = v i; replies = q i }
+      states : (view_of r).state ≡ with_size width height (view_of u).state
+      states = λ i. record { screen = (ap (λ x. (shown_by x).screen) e ∙ ap (λ d. d.screen) a.shown) i; saved = v i; replies = q i; modes = m i }
 
   -- ---- events in turn
 
@@ -123,7 +158,7 @@ module _ {W : Type 0} (width_of : W → List ℕ → ℕ) where
   stopped_all done left item items e = ap item_events e ∙ map-append item_event done (item ∷ left)
 
   pub stopped_had : (t before : TerminalState W) (done left : List Item) (item : Item) (items : List Item) → items ≡ done ++ (item ∷ left) → FoldsTo (DoesItem width_of) t done before
-      → IsReady t → AreEvents (item_events items) → Had width_of t before (item_events done)
+      → IsReady width_of t → AreEvents (item_events items) → Had width_of t before (item_events done)
   stopped_had t before done left item items e f ready events =
       leads width_of t before done f ready (are_prefix (item_events done) (item_event item ∷ item_events left) (subst AreEvents (stopped_all done left item items e) events))
 
@@ -137,7 +172,7 @@ module _ {W : Type 0} (width_of : W → List ℕ → ℕ) where
       subst (λ xs. Past (final_log width_of t xs)) (sym all)
       (subst Past (sym (after_had t s.before (item_events s.done) (item_event s.item ∷ rest) had)) (past_first s.before (item_event s.item) rest (s.refused had.ready one)))
 
-  stopped_ready : (t last : TerminalState W) (items : List Item) → StopsAt (DoesItem width_of) (RefusesItem width_of) t items refusal.Failed last → IsReady t → AreEvents (item_events items) → ⊥
+  stopped_ready : (t last : TerminalState W) (items : List Item) → StopsAt (DoesItem width_of) (RefusesItem width_of) t items refusal.Failed last → IsReady width_of t → AreEvents (item_events items) → ⊥
   stopped_ready t last items s ready events = s.refused (stopped_had t s.before s.done s.left s.item items s.whole s.performed ready events).ready
 
   -- a call that fails with `Number` has events that lead past the last number
@@ -148,7 +183,7 @@ module _ {W : Type 0} (width_of : W → List ℕ → ℕ) where
   halted_number t last items (halted.Refused refusal.Number) e s = stopped_number t last items s
   halted_number t last items (halted.Refused refusal.Memory) e s = cc
 
-  pub halted_ready : (t last : TerminalState W) (items : List Item) (h : Halted SurfaceError) → of_halted h ≡ Failed → (h ≡ halted.Failed → ⊥) → HaltsAt (DoesItem width_of) (RefusesItem width_of) t items h last → IsReady t → AreEvents (item_events items) → ⊥
+  pub halted_ready : (t last : TerminalState W) (items : List Item) (h : Halted SurfaceError) → of_halted h ≡ Failed → (h ≡ halted.Failed → ⊥) → HaltsAt (DoesItem width_of) (RefusesItem width_of) t items h last → IsReady width_of t → AreEvents (item_events items) → ⊥
   halted_ready t last items halted.Failed e n s ready events = n refl
   halted_ready t last items halted.Memory e n s ready events = cc
   halted_ready t last items (halted.Refused refusal.Failed) e n s ready events = stopped_ready t last items s ready events

@@ -13,10 +13,10 @@ use Rattle.terminal_table.specs.History as history
 use Rattle.terminal_table.specs.History.{Event, Act, events}
 use Rattle.terminal_table.specs.Logged.{event_logged, events_logged, logged}
 use Rattle.terminal_table.specs.Meaning.{View, event_done, after}
-use Rattle.terminal_table.specs.Turns.{IsPrinted, AreEvents}
+use Rattle.terminal_table.specs.Turns.{IsRunText, AreEvents}
 use Rattle.terminal_table.proofs.ListLemmas.{append_nil, drop_past}
 use Rattle.terminal_table.proofs.PrintLemmas.{AllCut, events_are}
-use Rattle.terminal_table.proofs.RunLemmas.{printed_append}
+use Rattle.terminal_table.proofs.RunLemmas.{no_text, text_append}
 use Rattle.terminal_table.proofs.TextLemmas.{prints, with_text, text_logged}
 use Rattle.terminal_steps.specs.Items.{item_events}
 
@@ -45,9 +45,9 @@ placed_are joins prefix (b ∷ bytes) =
 
 -- ---- the bytes of printed characters
 
-text_printed : (cs : List ℕ) (remaining : List Event) → AreEvents (prints cs ++ remaining) → IsPrinted (encode_utf8_all cs) × AreEvents remaining
-text_printed [] remaining h = (refl, h)
-text_printed (c ∷ cs) remaining h = let rest = text_printed cs remaining h.1 in (printed_append (encode_utf8 c) (encode_utf8_all cs) h.0 rest.0, rest.1)
+text_printed : (cs : List ℕ) (remaining : List Event) → AreEvents (prints cs ++ remaining) → IsRunText (encode_utf8_all cs) × AreEvents remaining
+text_printed [] remaining h = (no_text, h)
+text_printed (c ∷ cs) remaining h = let rest = text_printed cs remaining h.1 in (text_append (encode_utf8 c) (encode_utf8_all cs) h.0 rest.0, rest.1)
 
 -- the events of a text's characters, and then those of the remaining actions
 acts_of : (cs : List ℕ) (actions all : List StreamAction) → all ≡ map print cs ++ actions → map Act all ≡ prints cs ++ map Act actions
@@ -77,7 +77,7 @@ spelled_events [] [] nothing h = tt
 spelled_events _ _ (alone a ps actions rest) h = (h.0, spelled_events ps actions rest h.1)
 spelled_events _ _ (in_text from c cs text ps actions all e f rest) h =
     let both = text_printed (c ∷ cs) (map Act actions) (subst AreEvents (acts_of (c ∷ cs) actions all f) h) in
-    (subst IsPrinted (sym e) both.0, spelled_events ps actions rest both.1)
+    (subst IsRunText (sym e) both.0, spelled_events ps actions rest both.1)
 
 -- ---- the pieces of a call
 

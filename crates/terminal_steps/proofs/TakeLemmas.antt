@@ -36,7 +36,7 @@ module _ {W : Type 0} (width_of : W → List ℕ → ℕ) where
     ready = k.ready;
   }
 
-  had_none : (t : TerminalState W) → IsReady t → Had width_of t t []
+  had_none : (t : TerminalState W) → IsReady width_of t → Had width_of t t []
   had_none t ready = record { view = refl; log = refl; widths = refl; shape = refl; ready = ready }
 
   pub leads : (t last : TerminalState W) (items : List Item) → FoldsTo (DoesItem width_of) t items last → Leads width_of t last items

@@ -1,11 +1,18 @@
--- The control functions of the table that those of the code represent.
-use Rattle.std.specs.Prelude.{Option, option_map}
+-- The control functions of the table, and those of xterm's own, that those of the code represent.
+use Rattle.std.specs.Prelude.{Option, Some, option_map}
 use Rattle.std.specs.String.{string_bytes}
 use Rattle.terminal_table.specs.Functions as table
+use Rattle.terminal_table.specs.Modes.{Region, initial_modes}
+use Rattle.terminal_table.specs.Request as request
+use Rattle.terminal_table.specs.Xterm as xterm
 use Rattle.terminal_steps.specs.declared.function.Move.{Move}
 use Rattle.terminal_steps.specs.declared.function.Move.TheVariants as move
 use Rattle.terminal_steps.specs.declared.function.ControlFunction.{ControlFunction}
 use Rattle.terminal_steps.specs.declared.function.ControlFunction.TheVariants as code
+use Rattle.terminal_steps.specs.declared.xterm.XtermFunction.{XtermFunction}
+use Rattle.terminal_steps.specs.declared.xterm.XtermFunction.TheVariants as own
+use Rattle.terminal_steps.specs.declared.requests.Request.{Request}
+use Rattle.terminal_steps.specs.declared.requests.Request.TheVariants as asked
 
 abbrev pub move_of : Move → table.Move
 move_of (move.Up n) = table.Up n
@@ -44,3 +51,30 @@ table_function code.ReportPosition = table.ReportPosition
 -- a control function or none, as a function's answer
 abbrev pub table_functions : Option ControlFunction → Option table.ControlFunction
 table_functions found = option_map table_function found
+
+-- a function of xterm's own, where a region scrolls
+abbrev pub own_function : Region → XtermFunction → xterm.XtermFunction
+own_function region (own.EraseCharacters n) = xterm.EraseCharacters n
+own_function region (own.InsertCharacters n) = xterm.InsertCharacters n
+own_function region (own.DeleteCharacters n) = xterm.DeleteCharacters n
+own_function region own.EraseToEndOfLine = xterm.EraseToEndOfLine
+own_function region own.EraseToStartOfLine = xterm.EraseToStartOfLine
+own_function region own.LineFeed = xterm.LineFeed region
+own_function region own.NextLine = xterm.NextLine region
+own_function region own.ReverseIndex = xterm.ReverseIndex region
+own_function region (own.ScrollUp n) = xterm.ScrollUp region n
+own_function region (own.ScrollDown n) = xterm.ScrollDown region n
+own_function region (own.InsertLines n) = xterm.InsertLines region n
+own_function region (own.DeleteLines n) = xterm.DeleteLines region n
+
+-- what is asked for, and nothing or something, as a function's answer
+abbrev pub asked_for : Region → Request → request.Request
+asked_for region (asked.Table function) = request.Table (table_function function)
+asked_for region (asked.Xterm function) = request.Xterm (own_function region function)
+asked_for region (asked.Margins top bottom) =
+    request.Sets (record { region = Some (record { top = top; bottom = bottom }) })
+    (table.Moves (table.ToPosition 1 1))
+asked_for region asked.FullReset = request.Sets initial_modes table.FullReset
+
+abbrev pub maybe_asked : Region → Option Request → Option request.Request
+maybe_asked region found = option_map (asked_for region) found

@@ -1,5 +1,5 @@
 -- A parser's items as events, and what they do to the state that a terminal keeps.
-use Rattle.std.specs.Prelude.{◌≡◌, ◌<◌, ◌^◌, ℕ, Bool, false, List, [], ◌∷◌, ◌++◌, None, map, fold}
+use Rattle.std.specs.Prelude.{◌≡◌, ◌<◌, ◌^◌, ℕ, Bool, false, List, [], ◌∷◌, ◌++◌, Option, None, map, fold}
 use Rattle.cell_surface.specs.declared.error.SurfaceError.{SurfaceError}
 use Rattle.cell_surface.specs.declared.error.SurfaceError.TheVariants as refusal
 use Rattle.screen_log.specs.LogSteps.{Sized, step_of_kept}
@@ -7,10 +7,11 @@ use Rattle.escape_stream.specs.Items.{Item, Text, Single, items_of}
 use Rattle.escape_stream.specs.Pieces.{Piece, pieces}
 use Rattle.escape_stream.specs.PiecesView.{TakesMemoryBefore}
 use Rattle.escape_stream.specs.StreamAction.{is_print, print_string}
-use Rattle.terminal_table.specs.Functions.{function_of}
 use Rattle.terminal_table.specs.History.{Event, Act}
 use Rattle.terminal_table.specs.Logged.{events_logged}
 use Rattle.terminal_table.specs.Meaning.{View, event_done}
+use Rattle.terminal_table.specs.Modes.{Modes}
+use Rattle.terminal_table.specs.Requests.{AsksForNothing}
 use Rattle.terminal_table.specs.Turns.{AreEvents}
 use Rattle.terminal_steps.specs.Events.{IsReady, Had, Does, NeedsNumber}
 use Rattle.terminal_steps.specs.Memory.{NeedsMemory, TakesMemory}
@@ -31,14 +32,14 @@ DoesItem width_of before item after = Does width_of before after (item_event ite
 -- why an item is refused
 abbrev pub RefusesItem : {W : Type 0} → (W → List ℕ → ℕ) → TerminalState W → Item → SurfaceError → TerminalState W
     → Type 0
-RefusesItem width_of before item refusal.Failed after = IsReady before → ⊥
+RefusesItem width_of before item refusal.Failed after = IsReady width_of before → ⊥
 RefusesItem width_of before item refusal.Number after = NeedsNumber width_of before (item_event item ∷ [])
 RefusesItem width_of before item refusal.Memory after = NeedsMemory width_of before (item_event item) after
 
 -- some items had their meaning
 abbrev pub Leads : {W : Type 0} → (W → List ℕ → ℕ) → TerminalState W → TerminalState W → List Item → Type 0
 Leads width_of before after items =
-    IsReady before → AreEvents (item_events items) → Had width_of before after (item_events items)
+    IsReady width_of before → AreEvents (item_events items) → Had width_of before after (item_events items)
 
 -- the log after items
 abbrev pub log_after_items : (List ℕ → ℕ) → View → Sized → List Item → Sized
@@ -64,7 +65,8 @@ pub record ParserNeedsMemory (width_of : List ℕ → ℕ) (view : View) (log : 
   pub fits : (log_after_items width_of view log (items_of done)).log.number < 2 ^ 64
   pub takes : TakesMemoryBefore stream bytes left
 
--- an item asks for nothing: an action that prints nothing and has no control function
-abbrev pub AsksNothing : Item → Type 0
-AsksNothing (Text text) = ⊥
-AsksNothing (Single action) = (is_print action ≡ false) × (function_of action ≡ None)
+-- an item asks for nothing of a terminal with some modes or none: an action that prints nothing, and for which the
+-- terminal has no function
+abbrev pub AsksNothing : Option Modes → Item → Type 0
+AsksNothing modes (Text text) = ⊥
+AsksNothing modes (Single action) = (is_print action ≡ false) × AsksForNothing modes action

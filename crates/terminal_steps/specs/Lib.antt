@@ -1,9 +1,10 @@
-pub mod Additions
 pub mod FunctionView
 pub mod SavedView
+pub mod ProfileView
 pub mod TerminalStates
 pub mod Events
 pub mod Memory
 pub mod Refusals
 pub mod Items
 pub mod Cursor
+pub mod CarriesOut

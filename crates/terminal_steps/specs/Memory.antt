@@ -1,15 +1,19 @@
 -- What a terminal can be refused memory for.
-use Rattle.std.specs.Prelude.{◌≡◌, ◌<◌, ◌+◌, ◌^◌, ◌⊎◌, ℕ, Bool, true, false, List, length, Option, Some, None, fold}
+use Rattle.std.specs.Prelude.{◌≡◌, ◌<◌, ◌+◌, ◌^◌, ◌⊎◌, ℕ, Bool, true, false, List, Option, Some, None, fold}
 use Rattle.screen_log.specs.LogSteps.{Sized, step_of_kept}
 use Rattle.csi_codec.specs.declared.rendition.Sgr.{Sgr}
 use Rattle.csi_codec.specs.declared.rendition.Sgr.TheVariants as sgr
-use Rattle.escape_stream.specs.StreamAction.{is_print}
+use Rattle.escape_stream.specs.StreamAction.{StreamAction, is_print}
 use Rattle.terminal_table.specs.Functions.{ControlFunction, LineFeed, CarriageReturn, NextRow, EraseToEndOfDisplay}
 use Rattle.terminal_table.specs.Functions.{EraseDisplay, EraseToEndOfLine, EraseLine, Rendition, SaveCursor}
-use Rattle.terminal_table.specs.Functions.{RestoreCursor, ReportStatus, ReportPosition, function_of}
+use Rattle.terminal_table.specs.Functions.{RestoreCursor, ReportStatus, ReportPosition}
 use Rattle.terminal_table.specs.History.{Event, Act}
 use Rattle.terminal_table.specs.Logged.{event_logged, run_logged}
-use Rattle.terminal_table.specs.Meaning.{View}
+use Rattle.terminal_table.specs.Meaning.{View, settled}
+use Rattle.terminal_table.specs.Request.{Request, Table, Xterm, Sets}
+use Rattle.terminal_table.specs.Requests.{request_of}
+use Rattle.terminal_table.specs.State.{State}
+use Rattle.xterm_steps.specs.Additions.{IsChangeRefused}
 use Rattle.terminal_steps.specs.Events.{IsReady, view_of}
 use Rattle.terminal_steps.specs.declared.state.TerminalState.{TerminalState}
 
@@ -41,17 +45,23 @@ keeps ReportStatus = true
 keeps ReportPosition = true
 keeps _ = false
 
--- Beside its changes an action takes memory for a text or a pen that its control function copies, if the number after
--- the current one fits in 64 bits, or for a cursor or a reply that it keeps, if the current number does.
-abbrev pub TakesOwnMemory : Option ControlFunction → ℕ → Type 0
-TakesOwnMemory None number = ⊥
-TakesOwnMemory (Some function) number =
+-- Beside its changes an action takes memory for a text or a pen that its control function copies, or for the row that a
+-- function of xterm's own copies, if the number after the current one fits in 64 bits; or for a cursor or a reply that
+-- it keeps, if the current number does.
+abbrev pub TakesTableMemory : Option ControlFunction → ℕ → Type 0
+TakesTableMemory None number = ⊥
+TakesTableMemory (Some function) number =
     ((copies function ≡ true) × (number + 1 < 2 ^ 64)) ⊎ ((keeps function ≡ true) × (number < 2 ^ 64))
 
--- one of some changes after a number is refused memory: there is a change, the first one has a number, and the surface
--- has failed
-abbrev pub IsChangeRefused : {A : Type 0} → List A → ℕ → Bool → Type 0
-IsChangeRefused changes number failed = (0 < length changes) × (number + 1 < 2 ^ 64) × (failed ≡ true)
+abbrev pub TakesOwnMemory : Option Request → ℕ → Type 0
+TakesOwnMemory None number = ⊥
+TakesOwnMemory (Some (Table function)) number = TakesTableMemory (Some function) number
+TakesOwnMemory (Some (Xterm function)) number = number + 1 < 2 ^ 64
+TakesOwnMemory (Some (Sets modes function)) number = TakesTableMemory (Some function) number
+
+-- what an action asks for in a state
+abbrev pub asked_in : State → StreamAction → Option Request
+asked_in state action = request_of state.modes state.screen action
 
 -- the log's number once the held run has ended
 abbrev pub number_settled : View → Sized → ℕ
@@ -62,13 +72,14 @@ number_settled view log = (fold step_of_kept log (run_logged view)).log.number
 -- memory.
 abbrev pub TakesMemory : (List ℕ → ℕ) → View → Sized → Event → Bool → Type 0
 TakesMemory width_of view log (Act action) failed =
-    (is_print action ≡ true) ⊎ TakesOwnMemory (function_of action) (number_settled view log)
+    (is_print action ≡ true)
+    ⊎ TakesOwnMemory (asked_in (settled width_of view).state action) (number_settled view log)
     ⊎ IsChangeRefused (event_logged width_of view (Act action)) log.log.number failed
 TakesMemory width_of view log event failed = IsChangeRefused (event_logged width_of view event) log.log.number failed
 
 -- a terminal that was ready for an event is refused memory for it
 abbrev pub NeedsMemory : {W : Type 0} → (W → List ℕ → ℕ) → TerminalState W → Event → TerminalState W → Type 0
 NeedsMemory width_of before event after =
-    IsReady before
+    IsReady width_of before
     → TakesMemory (width_of before.surface.grid.widths) (view_of before) before.surface.log event
     after.surface.is_failed

@@ -1,17 +1,19 @@
 //! Changes that are added to a surface, one after another. `add_one`, `add_one_attribute` and `add_whole_pen` are not
 //! inlined: this keeps the large stack slot of a change out of callers that add nothing.
-ghost use Rattle.std.specs.Prelude.{[], ◌∷◌};
+ghost use Rattle.std.specs.Prelude.{◌≡◌, [], ◌∷◌, ◌++◌, OnOk};
 ghost use Rattle.std.specs.String.{string_bytes};
 ghost use Rattle.cell_base.specs.AttributeValueOf.{attribute_value};
+ghost use Rattle.cell_base.specs.declared.attribute_change.AttributeChange.TheVariants as AttributeChange;
 ghost use Rattle.screen_change.specs.ChangeValue.{Attribute, Text};
 ghost use Rattle.screen_change.specs.ValueOf.{value_of};
-ghost use Rattle.terminal_steps.specs.Additions.{Adds, CopiesAndAdds};
+ghost use Rattle.xterm_steps.specs.Additions.{Adds, CopiesAndAdds};
 ghost use Rattle.terminal_steps.specs.Cursor.{line_end_change, pen_change, position_change};
 
 use crate::cursor::{CellPosition, LineEnd, Pen};
-use cell_base::{AttributeChange, Widths};
+use cell_base::{AttributeChange, ColorAttribute, Intensity, Widths};
 use cell_surface::{Surface, SurfaceError};
 use screen_change::Change;
+use std::alloc::AllocError;
 
 // One change.
 #[inline(never)]
@@ -53,6 +55,45 @@ fn add_one_attribute<W: Widths + Drop>(
     ensures { Adds (λ w. W.width_of w) surface.old (Attribute (attribute_value change) ∷ []) result surface.new }
 {
     surface.add_change(change)?;
+    Ok(())
+}
+
+// The intensity of the pen.
+#[inline(never)]
+pub(crate) fn add_intensity<W: Widths + Drop>(
+    surface: &mut Surface<W>,
+    intensity: Intensity,
+) -> Result<(), SurfaceError>
+    ensures { Adds (λ w. W.width_of w) surface.old
+        (Attribute (attribute_value (AttributeChange.Intensity intensity)) ∷ []) result surface.new }
+{
+    surface.add_change(AttributeChange::Intensity(intensity))?;
+    Ok(())
+}
+
+// The foreground of the pen.
+#[inline(never)]
+pub(crate) fn add_foreground<W: Widths + Drop>(
+    surface: &mut Surface<W>,
+    color: ColorAttribute,
+) -> Result<(), SurfaceError>
+    ensures { Adds (λ w. W.width_of w) surface.old
+        (Attribute (attribute_value (AttributeChange.Foreground color)) ∷ []) result surface.new }
+{
+    surface.add_change(AttributeChange::Foreground(color))?;
+    Ok(())
+}
+
+// The background of the pen.
+#[inline(never)]
+pub(crate) fn add_background<W: Widths + Drop>(
+    surface: &mut Surface<W>,
+    color: ColorAttribute,
+) -> Result<(), SurfaceError>
+    ensures { Adds (λ w. W.width_of w) surface.old
+        (Attribute (attribute_value (AttributeChange.Background color)) ∷ []) result surface.new }
+{
+    surface.add_change(AttributeChange::Background(color))?;
     Ok(())
 }
 
@@ -123,6 +164,17 @@ pub(crate) fn add_cursor<W: Widths + Drop>(
     Ok(())
 }
 
+// Appends a text. A single byte is stored, in place of a block copy.
+#[inline(always)]
+fn append(copy: &mut String, text: &str) -> Result<(), AllocError>
+    ensures { OnOk result (string_bytes copy.new ≡ string_bytes copy.old ++ text.now) }
+{
+    match text.as_bytes() {
+        [byte] if byte.is_ascii() => copy.push(*byte as char),
+        _ => copy.push_str(text),
+    }
+}
+
 // A copy of a text.
 #[inline(always)]
 pub(crate) fn add_text<W: Widths + Drop>(
@@ -132,7 +184,7 @@ pub(crate) fn add_text<W: Widths + Drop>(
     ensures { CopiesAndAdds (λ w. W.width_of w) surface.old (Text text.now ∷ []) result surface.new }
 {
     let mut copy = surface.pooled_text();
-    copy.push_str(text)?;
+    append(&mut copy, text)?;
     add_run(surface, copy)
 }
 

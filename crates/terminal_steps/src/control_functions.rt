@@ -17,6 +17,7 @@ use escape_osc::OperatingSystemCommand;
 use escape_stream::{Action, ControlCode};
 
 // Of a control character: BS, HT, LF, VT, FF and CR.
+#[inline(always)]
 fn of_control(code: ControlCode) -> Option<ControlFunction>
     ensures { table_functions result ≡ control_function (control_number code) }
 {
@@ -32,6 +33,7 @@ fn of_control(code: ControlCode) -> Option<ControlFunction>
 }
 
 // Of an ESC pair: IND, NEL, RI, RIS, DECSC and DECRC.
+#[inline(always)]
 fn of_escape(code: EscCode) -> Option<ControlFunction>
     ensures { table_functions result ≡ escape_function code }
 {
@@ -48,6 +50,7 @@ fn of_escape(code: EscCode) -> Option<ControlFunction>
 
 // Of a cursor sequence: CUU, CUD, CUB, CUF, VPB, VPR, HPB, HPR, CNL, CPL, CHA, HPA, VPA, CUP, HVP, SCOSC, SCORC and
 // DSR 6.
+#[inline(always)]
 fn of_cursor(cursor: Cursor) -> Option<ControlFunction>
     ensures { table_functions result ≡ cursor_function cursor }
 {
@@ -74,6 +77,7 @@ fn of_cursor(cursor: Cursor) -> Option<ControlFunction>
 }
 
 // Of an edit: ED 0, ED 2, EL 0, EL 2, SU and SD.
+#[inline(always)]
 fn of_edit(edit: Edit) -> Option<ControlFunction>
     ensures { table_functions result ≡ edit_function edit }
 {
@@ -91,6 +95,7 @@ fn of_edit(edit: Edit) -> Option<ControlFunction>
 }
 
 // Of a mode: DECTCEM, set and reset.
+#[inline(always)]
 fn of_mode(mode: Mode) -> Option<ControlFunction>
     ensures { table_functions result ≡ mode_function mode }
 {
@@ -106,6 +111,7 @@ fn of_mode(mode: Mode) -> Option<ControlFunction>
 }
 
 // Of a CSI sequence: SGR except fonts, DSR 5, and those above.
+#[inline(always)]
 fn of_sequence(sequence: CSI) -> Option<ControlFunction>
     ensures { table_functions result ≡ sequence_function (action_of sequence) }
 {
@@ -137,6 +143,7 @@ fn of_command(command: OperatingSystemCommand) -> Option<ControlFunction>
 
 /// The control function that an action asks for; none for a print.
 #[tactic(auto, unfolding(terminal_table::specs::Functions::function_of))]
+#[inline(always)]
 pub(crate) fn control_function_of(action: Action) -> Option<ControlFunction>
     ensures { table_functions result ≡ function_of (value_of action) }
 {

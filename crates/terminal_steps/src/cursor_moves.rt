@@ -4,7 +4,7 @@ ghost use Rattle.cell_surface.specs.Surface.{shown_by};
 ghost use Rattle.terminal_table.specs.Changes.{changes, move_change, position};
 ghost use Rattle.terminal_table.specs.Functions as table;
 ghost use Rattle.terminal_table.specs.Steps.{active_column, target};
-ghost use Rattle.terminal_steps.specs.Additions.{Adds};
+ghost use Rattle.xterm_steps.specs.Additions.{Adds};
 ghost use Rattle.terminal_steps.specs.Cursor.{position_change};
 ghost use Rattle.terminal_steps.specs.FunctionView.{move_of};
 

@@ -4,7 +4,7 @@ ghost use Rattle.screen_change.specs.ValueOf.{value_of};
 ghost use Rattle.cell_surface.specs.Surface.{shown_by};
 ghost use Rattle.terminal_table.specs.Changes.{changes, same_position};
 ghost use Rattle.terminal_table.specs.Functions as table;
-ghost use Rattle.terminal_steps.specs.Additions.{Adds, CopiesAndAdds};
+ghost use Rattle.xterm_steps.specs.Additions.{Adds, CopiesAndAdds};
 ghost use Rattle.terminal_steps.specs.Cursor.{position_change};
 
 use crate::changes::{add, add_cursor, add_line_end, add_pen, add_position};

@@ -13,11 +13,14 @@
 //! - `function`: the control functions of a terminal, with their mnemonics.
 //! - `laws`: the law that the texts and actions of a call have the meaning of its bytes.
 //! - `pen`: SGR, and its effect on the pen.
+//! - `profile`: the profiles of a terminal, and what a terminal keeps for its profile.
 //! - `replies`: replies to the application, which asks for them by DSR.
+//! - `requests`: what the profile xterm has for an action, where that differs from the table.
 //! - `saved`: saved cursors (DECSC, DECRC, SCOSC, SCORC) and the full reset (RIS).
 //! - `state`: the state that a terminal keeps beside its parser, and its changes by events.
 //! - `text_runs`: runs of text, and the performer that the parser calls: a text joins the held run, and other
 //!   actions end it.
+//! - `xterm`: the functions that only the profile xterm has, and what each does.
 #![tactic(auto)]
 
 mod actions;
@@ -30,11 +33,15 @@ mod error;
 mod function;
 pub mod laws;
 mod pen;
+mod profile;
 mod replies;
+mod requests;
 mod saved;
 mod state;
 mod text_runs;
+mod xterm;
 
 pub use error::TerminalError;
+pub use profile::Profile;
 pub use saved::SavedCursor;
 pub use state::TerminalState;

@@ -5,10 +5,12 @@ ghost use Rattle.csi_codec.specs.declared.rendition.Sgr.TheVariants as sgr;
 ghost use Rattle.terminal_table.specs.Changes.{changes};
 ghost use Rattle.terminal_table.specs.Functions as table;
 ghost use Rattle.terminal_table.specs.Steps.{with_rendition};
-ghost use Rattle.terminal_steps.specs.Additions.{AddsWith};
+ghost use Rattle.xterm_steps.specs.Additions.{AddsWith};
 ghost use Rattle.terminal_steps.specs.Memory.{copies_pen};
 
-use crate::changes::{add_attribute, add_nothing, add_pen};
+use crate::changes::{
+    add_attribute, add_background, add_foreground, add_intensity, add_nothing, add_pen,
+};
 use crate::cursor::Pen;
 use cell_base::{
     AttributeChange, CellAttributes, ColorAttribute, ColorSpec, VerticalAlign, Widths,
@@ -63,15 +65,15 @@ pub(crate) fn render<W: Widths + Drop>(
         (changes (table.Rendition value) None (shown_by surface.old).screen) result surface.new }
 {
     let change = match value {
-        Sgr::Intensity(value) => AttributeChange::Intensity(value),
+        Sgr::Intensity(value) => return add_intensity(surface, value),
         Sgr::Underline(value) => AttributeChange::Underline(value),
         Sgr::Blink(value) => AttributeChange::Blink(value),
         Sgr::Italic(value) => AttributeChange::Italic(value),
         Sgr::Inverse(value) => AttributeChange::Reverse(value),
         Sgr::Invisible(value) => AttributeChange::Invisible(value),
         Sgr::StrikeThrough(value) => AttributeChange::StrikeThrough(value),
-        Sgr::Foreground(value) => AttributeChange::Foreground(ColorAttribute::from(value)),
-        Sgr::Background(value) => AttributeChange::Background(ColorAttribute::from(value)),
+        Sgr::Foreground(value) => return add_foreground(surface, ColorAttribute::from(value)),
+        Sgr::Background(value) => return add_background(surface, ColorAttribute::from(value)),
         Sgr::Reset => {
             let pen = reset(surface.pen())?;
             return add_pen(surface, pen);

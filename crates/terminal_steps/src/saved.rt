@@ -5,7 +5,7 @@ ghost use Rattle.terminal_table.specs.Changes.{changes};
 ghost use Rattle.terminal_table.specs.Functions as table;
 ghost use Rattle.terminal_table.specs.State.{cursor_of};
 ghost use Rattle.terminal_table.specs.Steps.{cursor_to_restore};
-ghost use Rattle.terminal_steps.specs.Additions.{Adds, CopiesAndAdds};
+ghost use Rattle.xterm_steps.specs.Additions.{Adds, CopiesAndAdds};
 
 use crate::changes::{add, add_cursor, add_nothing};
 use crate::cursor::Pen;

@@ -5,13 +5,15 @@ ghost use Rattle.escape_stream.specs.StreamAction.{is_print};
 ghost use Rattle.escape_stream.specs.StreamActionView.{value_of};
 ghost use Rattle.cell_surface.specs.Surface.{number_of, shown_by};
 ghost use Rattle.screen_log.specs.Log.{new_log};
-ghost use Rattle.terminal_table.specs.Meaning.{new_view};
+ghost use Rattle.terminal_table.specs.Meaning.{new_view_with};
 ghost use Rattle.terminal_table.specs.History.{Act, Forgot, Looked, Resized};
 ghost use Rattle.terminal_steps.specs.Events.{Does, IsReady, NeedsNumber, surface_in, view_of};
 ghost use Rattle.terminal_steps.specs.Memory.{NeedsMemory};
+ghost use Rattle.terminal_steps.specs.ProfileView.{modes_of};
 ghost use Rattle.terminal_table.specs.Replies.{without_replies};
 
 use crate::actions::{apply, print};
+use crate::profile::{Modes, Profile, modes_of, resized_modes};
 use crate::saved::SavedCursor;
 use cell_base::{SequenceNo, Widths};
 use cell_surface::{Surface, SurfaceError};
@@ -20,7 +22,7 @@ use std::alloc::{AllocError, Global};
 use std::mem;
 
 /// The state that a terminal keeps beside its parser: a surface, the cursor that was saved, the replies that
-/// were not yet taken, and the run of printed characters that nothing has ended.
+/// were not yet taken, the run of printed characters that nothing has ended, and the modes of its profile.
 ///
 /// A call that is refused may have done a part of its work.
 #[derive(Drop)]
@@ -29,23 +31,25 @@ pub struct TerminalState<W: Widths> {
     pub(crate) saved: Option<SavedCursor>,
     pub(crate) replies: Vec<u8>,
     pub(crate) held: String,
+    pub(crate) modes: Option<Modes>,
 }
 
 impl<W: Widths + Drop> TerminalState<W> {
     /// Blanks of this many columns and rows, each from 1 to 2^32 - 1, with the cursor at home and a plain
-    /// pen, no saved cursor, no reply and no run.
-    pub fn new(
+    /// pen, no saved cursor, no reply and no run, of a profile.
+    pub fn with_profile(
         alloc: Global,
         width: usize,
         height: usize,
         widths: W,
+        profile: Profile,
     ) -> Result<TerminalState<W>, AllocError>
         requires size { IsScreenSize width height }
-        ensures view { IfOk result (λ t. view_of t ≡ new_view width height) }
+        ensures view { IfOk result (λ t. view_of t ≡ new_view_with (modes_of profile) width height) }
         ensures shape { IfOk result (λ t. (shown_by (surface_in t)).shape ≡ None) }
         ensures log { IfOk result (λ t. (surface_in t).log.log ≡ new_log) }
         ensures widths { IfOk result (λ t. (surface_in t).grid.widths ≡ widths) }
-        ensures ready { IfOk result (λ t. IsReady t) }
+        ensures ready { IfOk result (λ t. IsReady (λ w. W.width_of w) t) }
     {
         let surface = Surface::new(alloc, width, height, widths)?;
         Ok(TerminalState {
@@ -53,6 +57,7 @@ impl<W: Widths + Drop> TerminalState<W> {
             saved: None,
             replies: Vec::new(alloc),
             held: String::new(alloc),
+            modes: modes_of(profile),
         })
     }
 
@@ -83,7 +88,7 @@ impl<W: Widths + Drop> TerminalState<W> {
     /// The held run ends: its text becomes one change, which the surface may refuse.
     pub fn settle(&mut self) -> Result<(), SurfaceError>
         ensures done { OnOk result (Does (λ w. W.width_of w) self.old self.new (Looked ∷ [])) }
-        ensures failed { IsErrOf result SurfaceError.Failed → IsReady self.old → ⊥ }
+        ensures failed { IsErrOf result SurfaceError.Failed → IsReady (λ w. W.width_of w) self.old → ⊥ }
         ensures numbers { IsErrOf result SurfaceError.Number → NeedsNumber (λ w. W.width_of w) self.old (Looked ∷ []) }
         ensures memory { IsErrOf result SurfaceError.Memory → (surface_in self.new).is_failed ≡ true }
         ensures numbered { IsErrOf result SurfaceError.Memory → number_of (surface_in self.old) + 1 < 2 ^ 64 }
@@ -99,25 +104,28 @@ impl<W: Widths + Drop> TerminalState<W> {
     }
 
     /// Becomes `width` columns wide and `height` rows high, each from 1 to 2^32 - 1. The held run ends first; a
-    /// saved cursor stays as it is. Refuses as the surface does.
+    /// saved cursor stays as it is, and all rows scroll. Refuses as the surface does.
     pub fn resize(&mut self, width: usize, height: usize) -> Result<(), SurfaceError>
         requires size { IsScreenSize width height }
         ensures done { OnOk result (Does (λ w. W.width_of w) self.old self.new (Resized width height ∷ [])) }
-        ensures failed { IsErrOf result SurfaceError.Failed → IsReady self.old → ⊥ }
+        ensures failed { IsErrOf result SurfaceError.Failed → IsReady (λ w. W.width_of w) self.old → ⊥ }
         ensures numbers { IsErrOf result SurfaceError.Number
             → NeedsNumber (λ w. W.width_of w) self.old (Resized width height ∷ []) }
         ensures memory { IsErrOf result SurfaceError.Memory → (surface_in self.new).is_failed ≡ true }
     {
         self.settle()?;
         self.surface.resize(width, height)?;
+        self.modes = resized_modes(self.modes);
         Ok(())
     }
 
     // An action that is no print ends the run, and is applied.
+    #[tactic(auto, using(crate::proofs::NumberLemmas::looked_past, crate::proofs::NumberLemmas::acted_past))]
+    #[inline(always)]
     pub(crate) fn apply(&mut self, action: Action) -> Result<(), SurfaceError>
         requires { is_print (value_of action) ≡ false }
         ensures done { OnOk result (Does (λ w. W.width_of w) self.old self.new (Act (value_of action) ∷ [])) }
-        ensures failed { IsErrOf result SurfaceError.Failed → IsReady self.old → ⊥ }
+        ensures failed { IsErrOf result SurfaceError.Failed → IsReady (λ w. W.width_of w) self.old → ⊥ }
         ensures numbers { IsErrOf result SurfaceError.Number
             → NeedsNumber (λ w. W.width_of w) self.old (Act (value_of action) ∷ []) }
         ensures memory { IsErrOf result SurfaceError.Memory
@@ -128,6 +136,7 @@ impl<W: Widths + Drop> TerminalState<W> {
             &mut self.surface,
             &mut self.saved,
             &mut self.replies,
+            &mut self.modes,
             action,
         )?;
         Ok(())

@@ -14,41 +14,41 @@ use Rattle.screen_effects.specs.Display.{Display, IsDisplay}
 use Rattle.screen_effects.specs.Effect.{effect, replay}
 use Rattle.screen_effects.specs.Resize.{resized, resized_screen}
 use Rattle.screen_effects.proofs.EffectLaws.{effect_is, replay_is, resized_is}
-use Rattle.terminal_table.specs.Functions.{function_of}
-use Rattle.terminal_table.specs.Changes.{changes_of, run_change}
+use Rattle.terminal_table.specs.Changes.{run_change}
+use Rattle.terminal_table.specs.Requests.{acted_changes}
 use Rattle.terminal_table.specs.History.{History, Event, Act, Looked, Resized, Forgot, events}
 use Rattle.terminal_table.specs.Meaning.{View, settled, event_done, after}
 use Rattle.terminal_table.specs.Logged.{run_logged}
 use Rattle.terminal_table.specs.Turns.{Turns, IsView, AreSizes, IsEvent, AreEvents, changes_in, replayed, all_replayed}
-use Rattle.terminal_table.proofs.TurnLemmas.{action_turns}
-use Rattle.terminal_table.proofs.RunLemmas.{run_step_turns, printed_append}
-use Rattle.terminal_table.proofs.StateLemmas.{step_of_is, run_is, size_is}
+use Rattle.terminal_table.proofs.RunLemmas.{run_step_turns, no_text, text_append}
+use Rattle.terminal_table.proofs.StateLemmas.{run_is, size_is}
+use Rattle.terminal_table.proofs.RequestLemmas.{actions_are_logged, actions_keep_states}
 use Rattle.terminal_table.proofs.PrintLemmas.{AllCut, events_are}
 
 -- ---- views stay lawful
 
-settled_is : (width_of : List ℕ → ℕ) (v : View) → IsView v → IsView (settled width_of v)
+pub settled_is : (width_of : List ℕ → ℕ) (v : View) → IsView width_of v → IsView width_of (settled width_of v)
 settled_is width_of v h = by_test (length v.held == 0) refl
   where
-    by_test : (b : Bool) → (length v.held == 0) ≡ b → IsView (settled width_of v)
-    by_test true e = rw e (record { lawful = h.lawful; plain = refl })
-    by_test false e = rw e (record { lawful = run_is width_of v.held v.state h.lawful; plain = refl })
+    by_test : (b : Bool) → (length v.held == 0) ≡ b → IsView width_of (settled width_of v)
+    by_test true e = rw e (record { lawful = h.lawful; plain = no_text })
+    by_test false e = rw e (record { lawful = run_is width_of v.held v.state h.plain h.lawful; plain = no_text })
 
-pub event_is : (width_of : List ℕ → ℕ) (v : View) (event : Event) → IsView v → IsEvent event → IsView (event_done width_of v event)
+pub event_is : (width_of : List ℕ → ℕ) (v : View) (event : Event) → IsView width_of v → IsEvent event → IsView width_of (event_done width_of v event)
 event_is width_of v (Act action) h k = by_test (is_print action) refl
   where
-    by_test : (b : Bool) → is_print action ≡ b → IsView (event_done width_of v (Act action))
-    by_test true e = rw e (record { lawful = h.lawful; plain = printed_append v.held (printed action) h.plain k })
-    by_test false e = rw e (record { lawful = step_of_is (function_of action) (settled width_of v).state (settled_is width_of v h).lawful; plain = refl })
+    by_test : (b : Bool) → is_print action ≡ b → IsView width_of (event_done width_of v (Act action))
+    by_test true e = rw e (record { lawful = h.lawful; plain = text_append v.held (printed action) h.plain k })
+    by_test false e = rw e (record { lawful = actions_keep_states width_of action (settled width_of v).state (settled_is width_of v h).lawful; plain = no_text })
 event_is width_of v Looked h k = settled_is width_of v h
-event_is width_of v (Resized width height) h k = record { lawful = size_is width height (settled width_of v).state k.0 k.1 (settled_is width_of v h).lawful; plain = refl }
+event_is width_of v (Resized width height) h k = record { lawful = size_is width_of width height (settled width_of v).state k.0 k.1 (settled_is width_of v h).lawful; plain = no_text }
 event_is width_of v (Forgot number) h k = h
 
-events_keep : (width_of : List ℕ → ℕ) (v : View) (es : List Event) → IsView v → AreEvents es → IsView (fold (event_done width_of) v es)
+events_keep : (width_of : List ℕ → ℕ) (v : View) (es : List Event) → IsView width_of v → AreEvents es → IsView width_of (fold (event_done width_of) v es)
 events_keep width_of v [] h k = h
 events_keep width_of v (e ∷ es) h k = events_keep width_of (event_done width_of v e) es (event_is width_of v e h k.0) k.1
 
-pub after_is : AllCut → (width_of : List ℕ → ℕ) (v : View) (history : History) → IsView v → AreSizes history → IsView (after width_of v history)
+pub after_is : AllCut → (width_of : List ℕ → ℕ) (v : View) (history : History) → IsView width_of v → AreSizes history → IsView width_of (after width_of v history)
 after_is cut width_of v history h k =
     let kept = events_keep width_of v (events v.stream history) h (events_are cut v.stream history k) in
     record { lawful = kept.lawful; plain = kept.plain }
@@ -63,12 +63,12 @@ pub record Follows (before after : Display) (shown : Screen) : Type 0 where
 then_turns : (a b c : Display) (s t : Screen) → Turns a b s → Turns b c t → Turns a c t
 then_turns a b c s t x y = record { screen = y.screen; shape = y.shape ∙ x.shape; sizes = λ h. y.sizes (x.sizes h) }
 
-settled_follows : (width_of : List ℕ → ℕ) (v : View) (d : Display) → IsView v → IsDisplay d → d.screen ≡ v.state.screen → Follows d (replay width_of d (changes_in (run_logged v))) (settled width_of v).state.screen
+settled_follows : (width_of : List ℕ → ℕ) (v : View) (d : Display) → IsView width_of v → IsDisplay d → d.screen ≡ v.state.screen → Follows d (replay width_of d (changes_in (run_logged v))) (settled width_of v).state.screen
 settled_follows width_of v d h k e = by_test (length v.held == 0) refl
   where
     by_test : (b : Bool) → (length v.held == 0) ≡ b → Follows d (replay width_of d (changes_in (run_logged v))) (settled width_of v).state.screen
     by_test true t = rw t (record { turns = record { screen = e; shape = refl; sizes = λ x. x }; lawful = k })
-    by_test false t = rw t (record { turns = run_step_turns width_of v.held v.state d h.plain e; lawful = effect_is width_of d (run_change v.held) k })
+    by_test false t = rw t (record { turns = run_step_turns width_of v.held v.state d h.plain h.lawful k e; lawful = effect_is width_of d (run_change v.held) k })
 
 changes-append : (xs ys : List LogStep) → changes_in (xs ++ ys) ≡ changes_in xs ++ changes_in ys
 changes-append [] ys = refl
@@ -84,11 +84,11 @@ changes-logged (c ∷ cs) = ap (λ xs. c ∷ xs) (changes-logged cs)
 replay_after : (width_of : List ℕ → ℕ) (v : View) (d : Display) (steps : List LogStep) → replay width_of d (changes_in (run_logged v ++ steps)) ≡ replay width_of (replay width_of d (changes_in (run_logged v))) (changes_in steps)
 replay_after width_of v d steps = ap (replay width_of d) (changes-append (run_logged v) steps) ∙ fold-append (effect width_of) d (changes_in (run_logged v)) (changes_in steps)
 
-act_follows : (width_of : List ℕ → ℕ) (v : View) (action : StreamAction) (d : Display) → IsView v → IsDisplay d → d.screen ≡ v.state.screen → Follows d (replayed width_of v (Act action) d) (event_done width_of v (Act action)).state.screen
+act_follows : (width_of : List ℕ → ℕ) (v : View) (action : StreamAction) (d : Display) → IsView width_of v → IsDisplay d → d.screen ≡ v.state.screen → Follows d (replayed width_of v (Act action) d) (event_done width_of v (Act action)).state.screen
 act_follows width_of v action d h k e = by_test (is_print action) refl
   where
     changes : List ChangeValue
-    changes = changes_of (function_of action) (settled width_of v).state
+    changes = acted_changes action (settled width_of v).state
 
     first : Display
     first = replay width_of d (changes_in (run_logged v))
@@ -99,7 +99,7 @@ act_follows width_of v action d h k e = by_test (is_print action) refl
     by_test : (b : Bool) → is_print action ≡ b → Follows d (replayed width_of v (Act action) d) (event_done width_of v (Act action)).state.screen
     by_test true t = rw t (record { turns = record { screen = e; shape = refl; sizes = λ x. x }; lawful = k })
     by_test false t = rw (t, ends) (let s = settled_follows width_of v d h k e in record {
-      turns = then_turns d first (replay width_of first changes) (settled width_of v).state.screen _ s.turns (action_turns width_of (function_of action) (settled width_of v).state first s.lawful s.turns.screen);
+      turns = then_turns d first (replay width_of first changes) (settled width_of v).state.screen _ s.turns (actions_are_logged width_of action (settled width_of v).state first (settled_is width_of v h).lawful s.lawful s.turns.screen);
       lawful = replay_is width_of changes first s.lawful;
     })
 
@@ -110,7 +110,7 @@ size_turns width height d s e = record {
   sizes = λ h. All-append (λ x. x ≡ SingleWidthLine) (take height d.sizes) (replicate (height - length d.sizes) SingleWidthLine) (All-take (λ x. x ≡ SingleWidthLine) height d.sizes h) (All-replicate (λ x. x ≡ SingleWidthLine) (height - length d.sizes) SingleWidthLine refl);
 }
 
-pub event_follows : (width_of : List ℕ → ℕ) (v : View) (event : Event) (d : Display) → IsView v → IsEvent event → IsDisplay d → d.screen ≡ v.state.screen → Follows d (replayed width_of v event d) (event_done width_of v event).state.screen
+pub event_follows : (width_of : List ℕ → ℕ) (v : View) (event : Event) (d : Display) → IsView width_of v → IsEvent event → IsDisplay d → d.screen ≡ v.state.screen → Follows d (replayed width_of v event d) (event_done width_of v event).state.screen
 event_follows width_of v (Act action) d h l k e = act_follows width_of v action d h k e
 event_follows width_of v Looked d h l k e = settled_follows width_of v d h k e
 event_follows width_of v (Resized width height) d h l k e =
@@ -123,7 +123,7 @@ event_follows width_of v (Resized width height) d h l k e =
     })
 event_follows width_of v (Forgot number) d h l k e = record { turns = record { screen = e; shape = refl; sizes = λ x. x }; lawful = k }
 
-all_follow : (width_of : List ℕ → ℕ) (v : View) (es : List Event) (d : Display) → IsView v → AreEvents es → IsDisplay d → d.screen ≡ v.state.screen → Follows d (all_replayed width_of v es d) (fold (event_done width_of) v es).state.screen
+all_follow : (width_of : List ℕ → ℕ) (v : View) (es : List Event) (d : Display) → IsView width_of v → AreEvents es → IsDisplay d → d.screen ≡ v.state.screen → Follows d (all_replayed width_of v es d) (fold (event_done width_of) v es).state.screen
 all_follow width_of v [] d h l k e = record { turns = record { screen = e; shape = refl; sizes = λ x. x }; lawful = k }
 all_follow width_of v (event ∷ es) d h l k e =
     let next = event_done width_of v event in
@@ -134,8 +134,8 @@ all_follow width_of v (event ∷ es) d h l k e =
       lawful = rest.lawful;
     }
 
-pub event_turns : (width_of : List ℕ → ℕ) (v : View) (event : Event) (d : Display) → IsView v → IsEvent event → IsDisplay d → d.screen ≡ v.state.screen → Turns d (replayed width_of v event d) (event_done width_of v event).state.screen
+pub event_turns : (width_of : List ℕ → ℕ) (v : View) (event : Event) (d : Display) → IsView width_of v → IsEvent event → IsDisplay d → d.screen ≡ v.state.screen → Turns d (replayed width_of v event d) (event_done width_of v event).state.screen
 event_turns width_of v event d h l k e = (event_follows width_of v event d h l k e).turns
 
-pub history_turns : AllCut → (width_of : List ℕ → ℕ) (v : View) (history : History) (d : Display) → IsView v → AreSizes history → IsDisplay d → d.screen ≡ v.state.screen → Turns d (all_replayed width_of v (events v.stream history) d) (after width_of v history).state.screen
+pub history_turns : AllCut → (width_of : List ℕ → ℕ) (v : View) (history : History) (d : Display) → IsView width_of v → AreSizes history → IsDisplay d → d.screen ≡ v.state.screen → Turns d (all_replayed width_of v (events v.stream history) d) (after width_of v history).state.screen
 history_turns cut width_of v history d h l k e = (all_follow width_of v (events v.stream history) d h (events_are cut v.stream history l) k e).turns

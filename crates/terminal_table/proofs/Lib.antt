@@ -2,6 +2,7 @@ pub mod Computing
 pub mod ListLemmas
 pub mod TurnLemmas
 pub mod RunLemmas
+pub mod SoundLemmas
 pub mod StateLemmas
 pub mod PrintLemmas
 pub mod EventLemmas
@@ -14,3 +15,8 @@ pub mod CountLemmas
 pub mod RowsLemmas
 pub mod PutLemmas
 pub mod StreamLemmas
+pub mod PositionLemmas
+pub mod LedLemmas
+pub mod XtermLemmas
+pub mod RequestLemmas
+pub mod ModesLemmas

@@ -1,4 +1,4 @@
--- The texts that a stream prints hold no controls.
+-- The texts that a stream prints are UTF-8 and hold no controls.
 use Rattle.std.proofs.Common.{ℕ, zero, suc, inr, Bool, true, false, List, [], ◌∷◌, ◌++◌, length, drop, map, refl, arith}
 use Rattle.std.specs.Prelude.{⊤, ◌==◌, ◌||◌, Option, Some, None, filter, nat_lt, if◌then◌else◌}
 use Rattle.std.specs.Char.{IsScalar}
@@ -15,8 +15,8 @@ use Rattle.escape_stream.specs.Controls.{control_named}
 use Rattle.escape_stream.specs.StreamAction.{StreamAction, printed, csi}
 use Rattle.escape_stream.specs.StreamActions.{named_control, actions_of_dispatch, actions_of, newly_decided_actions}
 use Rattle.terminal_table.specs.History.{History, Piece, Look, Resize, Forget, Event, Act, events}
-use Rattle.terminal_table.specs.Turns.{IsPrinted, AreEvents, AreSizes}
-use Rattle.terminal_table.proofs.RunLemmas.{character_printed}
+use Rattle.terminal_table.specs.Turns.{IsRunText, AreEvents, AreSizes}
+use Rattle.terminal_table.proofs.RunLemmas.{character_runs, no_text}
 
 -- ---- dispatches whose prints are printable
 
@@ -107,7 +107,7 @@ stream_prints cut stream = append (flat_map dispatches_of (the_cut stream).segme
 
 abbrev AllPrinted : List StreamAction → Type 0
 AllPrinted [] = ⊤
-AllPrinted (a ∷ actions) = IsPrinted (printed a) × AllPrinted actions
+AllPrinted (a ∷ actions) = IsRunText (printed a) × AllPrinted actions
 
 joined : (xs ys : List StreamAction) → AllPrinted xs → AllPrinted ys → AllPrinted (xs ++ ys)
 joined [] ys h k = k
@@ -115,21 +115,21 @@ joined (x ∷ xs) ys h k = (h.0, joined xs ys h.1 k)
 
 sequences_print : (actions : List codec.Action) → AllPrinted (map csi actions)
 sequences_print [] = tt
-sequences_print (a ∷ actions) = (refl, sequences_print actions)
+sequences_print (a ∷ actions) = (no_text, sequences_print actions)
 
 named_print : (code : Option ControlCode) → AllPrinted (named_control code)
 named_print None = tt
-named_print (Some code) = (refl, tt)
+named_print (Some code) = (no_text, tt)
 
 dispatch_prints : (d : Dispatch) → Prints d → AllPrinted (actions_of_dispatch d)
-dispatch_prints (Print c) h = (character_printed c h.0 h.1, tt)
+dispatch_prints (Print c) h = (character_runs c h.0 h.1, tt)
 dispatch_prints (Control b) h = named_print (control_named b)
-dispatch_prints (Escape intermediate final) h = (refl, tt)
+dispatch_prints (Escape intermediate final) h = (no_text, tt)
 dispatch_prints (ControlSequence tokens truncated final) h = sequences_print (csi_reading tokens truncated final)
-dispatch_prints (OperatingSystemCommand body) h = (refl, tt)
-dispatch_prints (Enter header final) h = (refl, tt)
-dispatch_prints (Data b) h = (refl, tt)
-dispatch_prints Exit h = (refl, tt)
+dispatch_prints (OperatingSystemCommand body) h = (no_text, tt)
+dispatch_prints (Enter header final) h = (no_text, tt)
+dispatch_prints (Data b) h = (no_text, tt)
+dispatch_prints Exit h = (no_text, tt)
 
 actions_print : (ds : List Dispatch) → PrintAll ds → AllPrinted (actions_of ds)
 actions_print [] h = tt

@@ -6,14 +6,16 @@ use Rattle.screen_change.specs.ChangeValue.{ChangeValue}
 use Rattle.screen_log.specs.LogSteps.{LogStep, Logged}
 use Rattle.escape_stream.specs.StreamAction.{StreamAction, is_print}
 use Rattle.escape_stream.specs.StreamActions.{newly_decided_actions}
-use Rattle.terminal_table.specs.Changes.{changes_of}
-use Rattle.terminal_table.specs.Functions.{ControlFunction, Moves, LineFeed, CarriageReturn, NextRow, ReverseIndex, EraseToEndOfDisplay, EraseDisplay, EraseToEndOfLine, EraseLine, ScrollUp, ScrollDown, Rendition, Hyperlink, Title, ShowCursor, SaveCursor, RestoreCursor, FullReset, ReportStatus, ReportPosition, function_of}
+use Rattle.terminal_table.specs.Functions.{ControlFunction, Moves, LineFeed, CarriageReturn, NextRow, ReverseIndex, EraseToEndOfDisplay, EraseDisplay, EraseToEndOfLine, EraseLine, ScrollUp, ScrollDown, Rendition, Hyperlink, Title, ShowCursor, SaveCursor, RestoreCursor, FullReset, ReportStatus, ReportPosition}
 use Rattle.terminal_table.specs.History.{History, Piece, Forget, pieces, Event, Act, Looked, Resized, Forgot, events}
 use Rattle.terminal_table.specs.Logged.{run_logged, event_logged, events_logged, logged}
 use Rattle.terminal_table.specs.Meaning.{View, settled, event_done, after, with_size}
 use Rattle.terminal_table.specs.Replies.{with_taken, without_replies}
+use Rattle.terminal_table.specs.Request.{Request, Table, Xterm, Sets}
+use Rattle.terminal_table.specs.Modes.{Modes}
+use Rattle.terminal_table.specs.Requests.{acted, acted_changes, request_changes, request_done, request_of}
 use Rattle.terminal_table.specs.State.{State}
-use Rattle.terminal_table.specs.Steps.{reply_step, run_step, status_reply, position_reply, step, step_of}
+use Rattle.terminal_table.specs.Steps.{reply_step, run_step, status_reply, position_reply, step}
 use Rattle.terminal_table.proofs.JoinLemmas.{after_joins, nothing_after, with_stream}
 
 reply_after : (function : ControlFunction) (taken replies : List ℕ) (screen : Screen) → reply_step function (taken ++ replies) screen ≡ taken ++ reply_step function replies screen
@@ -50,21 +52,25 @@ module _ (width_of : List ℕ → ℕ) (taken : List ℕ) where
       by_test true = refl
       by_test false = refl
 
-  step_with : (request : Option ControlFunction) (state : State) → step_of request (with_prefix taken state) ≡ with_prefix taken (step_of request state)
+  step_with : (request : Option Request) (state : State) → request_done request (with_prefix taken state) ≡ with_prefix taken (request_done request state)
   step_with None state = refl
-  step_with (Some function) state = λ i. record (step function state) { replies = reply_after function taken state.replies state.screen i }
+  step_with (Some (Table function)) state = λ i. record (step function state) { replies = reply_after function taken state.replies state.screen i }
+  step_with (Some (Xterm function)) state = refl
+  step_with (Some (Sets modes function)) state = λ i. record (step function state) { replies = reply_after function taken state.replies state.screen i; modes = Some modes }
 
-  changes_with : (request : Option ControlFunction) (state : State) → changes_of request (with_prefix taken state) ≡ changes_of request state
+  changes_with : (request : Option Request) (state : State) → request_changes request (with_prefix taken state) ≡ request_changes request state
   changes_with None state = refl
-  changes_with (Some function) state = refl
+  changes_with (Some (Table function)) state = refl
+  changes_with (Some (Xterm function)) state = refl
+  changes_with (Some (Sets modes function)) state = refl
 
   done_with : (v : View) (event : Event) → event_done width_of (with_taken taken v) event ≡ with_taken taken (event_done width_of v event)
   done_with v (Act action) = by_test (is_print action) refl
     where
       by_test : (b : Bool) → is_print action ≡ b → event_done width_of (with_taken taken v) (Act action) ≡ with_taken taken (event_done width_of v (Act action))
       by_test true e = rw e refl
-      by_test false e = rw e (ap (λ (x : View). record x { state = step_of (function_of action) x.state }) (settled_with v)
-          ∙ ap (λ (s : State). record (settled width_of v) { state = s }) (step_with (function_of action) (settled width_of v).state))
+      by_test false e = rw e (ap (λ (x : View). record x { state = acted action x.state }) (settled_with v)
+          ∙ ap (λ (s : State). record (settled width_of v) { state = s }) (step_with (request_of (settled width_of v).state.modes (settled width_of v).state.screen action) (settled width_of v).state))
   done_with v Looked = settled_with v
   done_with v (Resized width tall) = ap (λ (x : View). record x { state = with_size width tall x.state }) (settled_with v)
   done_with v (Forgot number) = refl
@@ -76,7 +82,7 @@ module _ (width_of : List ℕ → ℕ) (taken : List ℕ) where
   one_logged_with : (v : View) (event : Event) → event_logged width_of (with_taken taken v) event ≡ event_logged width_of v event
   one_logged_with v (Act action) =
       ap (λ (cs : List ChangeValue). if is_print action then [] else run_logged v ++ map Logged cs)
-      (ap (λ (x : View). changes_of (function_of action) x.state) (settled_with v) ∙ changes_with (function_of action) (settled width_of v).state)
+      (ap (λ (x : View). acted_changes action x.state) (settled_with v) ∙ changes_with (request_of (settled width_of v).state.modes (settled width_of v).state.screen action) (settled width_of v).state)
   one_logged_with v Looked = refl
   one_logged_with v (Resized width tall) = refl
   one_logged_with v (Forgot number) = refl

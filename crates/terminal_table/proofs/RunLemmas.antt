@@ -6,19 +6,20 @@ use Rattle.std.specs.Char.{IsScalar, is_ascii_control}
 use Rattle.std.proofs.lemmas.Bool.{and_parts}
 use Rattle.std.proofs.lemmas.Bool.Decides.{nat_tests}
 use Rattle.std.proofs.lemmas.List.Folds.{list_all-append}
+use Rattle.std.proofs.lemmas.Str.{IsUtf8-append, IsUtf8-encode, IsUtf8-nil}
 use Rattle.std.specs.Str.{chars}
 use Rattle.unicode_segmentation.proofs.Computing.{unicode_segmentation}
 use Rattle.cell_base.specs.Cluster.{clusters}
 use Rattle.cell_base.specs.Screen.{put, put_run}
 use Rattle.escape_framing.specs.Segment.{IsPrintable}
 use Rattle.escape_framing.proofs.Existence.Utf8Lemmas.{Spelled, in_one, in_two, in_three, in_four, spelled}
-use Rattle.screen_effects.specs.Display.{Display}
+use Rattle.screen_effects.specs.Display.{Display, IsDisplay}
 use Rattle.screen_effects.specs.Effect.{effect}
 use Rattle.screen_effects.specs.Strokes.{Plain, Cluster, with_byte, text_parts, part_strokes, strokes, stroke_done}
-use Rattle.terminal_table.specs.State.{State}
+use Rattle.terminal_table.specs.State.{State, IsState}
 use Rattle.terminal_table.specs.Steps.{run_step}
 use Rattle.terminal_table.specs.Changes.{run_change}
-use Rattle.terminal_table.specs.Turns.{Turns, IsPrinted}
+use Rattle.terminal_table.specs.Turns.{Turns, IsPrinted, IsRunText}
 use Rattle.terminal_table.proofs.ListLemmas.{append_nil}
 use Rattle.terminal_table.proofs.TurnLemmas.{stroke_single}
 
@@ -58,8 +59,8 @@ clusters_put width_of (text ∷ texts) d =
 pub run_turns : (width_of : List ℕ → ℕ) (text : List ℕ) (d : Display) → IsPrinted text → Turns d (effect width_of d (run_change text)) (put_run width_of d.screen text)
 run_turns width_of text d h = subst (λ s. Turns d (fold (stroke_done width_of) d s) (put_run width_of d.screen text)) (sym (printed_strokes text h)) (clusters_put width_of (clusters text) d)
 
-pub run_step_turns : (width_of : List ℕ → ℕ) (text : List ℕ) (state : State) (d : Display) → IsPrinted text → d.screen ≡ state.screen → Turns d (effect width_of d (run_change text)) (run_step width_of text state).screen
-run_step_turns width_of text state d h e = subst (λ s. Turns d (effect width_of d (run_change text)) (put_run width_of s text)) e (run_turns width_of text d h)
+pub run_step_turns : (width_of : List ℕ → ℕ) (text : List ℕ) (state : State) (d : Display) → IsRunText text → IsState width_of state → IsDisplay d → d.screen ≡ state.screen → Turns d (effect width_of d (run_change text)) (run_step width_of text state).screen
+run_step_turns width_of text state d t p h e = subst (λ s. Turns d (effect width_of d (run_change text)) (put_run width_of s text)) e (run_turns width_of text d t.printed)
 
 -- ---- characters that are printed
 
@@ -81,3 +82,14 @@ character_printed c s p = spelled_printed c p (spelled c s)
 
 pub printed_append : (text more : List ℕ) → IsPrinted text → IsPrinted more → IsPrinted (text ++ more)
 printed_append text more h k = list_all-append is_plain text more ∙ (λ i. h i && k i)
+
+-- ---- texts of runs
+
+pub no_text : IsRunText []
+no_text = record { utf8 = IsUtf8-nil; printed = refl }
+
+pub character_runs : (c : ℕ) → IsScalar c → IsPrintable c → IsRunText (encode_utf8 c)
+character_runs c s p = record { utf8 = IsUtf8-encode c s; printed = character_printed c s p }
+
+pub text_append : (text more : List ℕ) → IsRunText text → IsRunText more → IsRunText (text ++ more)
+text_append text more h k = record { utf8 = IsUtf8-append text more h.utf8 k.utf8; printed = printed_append text more h.printed k.printed }

@@ -1,6 +1,6 @@
 -- The text of one action, fed where nothing is unfinished and no run is held.
 use Rattle.std.proofs.Common.{◌≡◌, ◌≢◌, ℕ, ◌<◌, Bool, true, false, List, [], ◌∷◌, ◌++◌, length, map, fold, refl, sym, ap, subst, ◌∙◌, arith}
-use Rattle.std.specs.Prelude.{◌==◌, encode_utf8, encode_utf8_all, if◌then◌else◌}
+use Rattle.std.specs.Prelude.{◌==◌, Option, encode_utf8, encode_utf8_all, if◌then◌else◌}
 use Rattle.std.specs.Str.{chars}
 use Rattle.std.proofs.lemmas.Bool.Decides.{nat_tests}
 use Rattle.std.proofs.lemmas.Str.{encodes-chars}
@@ -19,10 +19,13 @@ use Rattle.terminal_table.specs.Changes.{run_change}
 use Rattle.terminal_table.specs.History.{Event, Act, Looked, events}
 use Rattle.terminal_table.specs.Logged.{events_logged, logged}
 use Rattle.terminal_table.specs.Meaning.{View, event_done, after}
+use Rattle.terminal_table.specs.Request.{Request}
+use Rattle.terminal_table.specs.Requests.{request_changes, request_done}
 use Rattle.terminal_table.specs.State.{State}
 use Rattle.terminal_table.specs.Steps.{run_step}
 use Rattle.terminal_table.proofs.JoinLemmas.{nothing_after}
 use Rattle.terminal_table.proofs.ListLemmas.{append_nil}
+use Rattle.terminal_table.proofs.RequestLemmas.{terminator_asks}
 use Rattle.terminal_table.proofs.TextLemmas.{prints, with_text, text_logged}
 
 no_more : (actions : List StreamAction) → actions ++ [] ≡ actions
@@ -72,7 +75,9 @@ module _ (f : List ℕ → ℕ) (state : State) (stream : List ℕ) where
   row_is (enter header byte) w = absurd w.1
   row_is (data_byte byte) w = absurd w.0
   row_is exit w = absurd w.0
-  row_is (command c) w = refl
+  row_is (command c) w =
+      let s : State = row_done f (command c) state in
+      ap (λ (request : Option Request). at (request_done request s) stream) (terminator_asks s.modes s.screen)
   row_is (csi a) w = refl
   row_is (esc e) w = refl
 
@@ -88,7 +93,10 @@ module _ (f : List ℕ → ℕ) (state : State) (stream : List ℕ) where
   row_logged_is (enter header byte) w = absurd w.1
   row_logged_is (data_byte byte) w = absurd w.0
   row_logged_is exit w = absurd w.0
-  row_logged_is (command c) w = append_nil _
+  row_logged_is (command c) w =
+      let s : State = row_done f (command c) state in
+      let own : List LogStep = row_logged (command c) state in
+      ap (λ (request : Option Request). own ++ (map Logged (request_changes request s) ++ [])) (terminator_asks s.modes s.screen) ∙ append_nil own
   row_logged_is (csi a) w = append_nil _
   row_logged_is (esc e) w = append_nil _
 

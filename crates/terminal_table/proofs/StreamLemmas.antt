@@ -82,7 +82,7 @@ run_width width_of view = by_test (length view.held == 0)
 
 -- the laws of views: events leave lawful views, and a stream has lawful events
 abbrev pub EventsKeepViews : Type 0
-EventsKeepViews = (width_of : List ℕ → ℕ) (view : View) (event : Event) → IsView view → IsEvent event → IsView (event_done width_of view event)
+EventsKeepViews = (width_of : List ℕ → ℕ) (view : View) (event : Event) → IsView width_of view → IsEvent event → IsView width_of (event_done width_of view event)
 
 abbrev pub StreamsHaveEvents : Type 0
 StreamsHaveEvents = (stream : List ℕ) (history : History) → AreSizes history → AreEvents (events stream history)
@@ -91,7 +91,7 @@ StreamsHaveEvents = (stream : List ℕ) (history : History) → AreSizes history
 same_width : (one other : Screen) → IsScreen one → IsScreen other → one.rows ≡ other.rows → one.width ≡ other.width
 same_width one other h k e = sym (first_row one h) ∙ ap (λ (rows : List Row). length (get_or rows 0 [])) e ∙ first_row other k
 
-event_width : EventsKeepViews → (width_of : List ℕ → ℕ) (view : View) (event : Event) → IsView view → IsEvent event → IsPlainEvent width_of view event
+event_width : EventsKeepViews → (width_of : List ℕ → ℕ) (view : View) (event : Event) → IsView width_of view → IsEvent event → IsPlainEvent width_of view event
     → (event_done width_of view event).state.screen.width ≡ view.state.screen.width
 event_width keep width_of view event h k plain =
     same_width (event_done width_of view event).state.screen (run_ended width_of view event).state.screen (keep width_of view event h k).lawful.lawful (lawful (ends_run event)) plain.rows
@@ -106,22 +106,22 @@ event_width keep width_of view event h k plain =
     width false = refl
 
 -- a view that is lawful, on a screen of some width
-record IsAsWide (view : View) (width : ℕ) : Type 0 where
-  lawful : IsView view
+record IsAsWide (width_of : List ℕ → ℕ) (view : View) (width : ℕ) : Type 0 where
+  lawful : IsView width_of view
   same : view.state.screen.width ≡ width
 
-events_wide : EventsKeepViews → (width_of : List ℕ → ℕ) (es : List Event) (view : View) (width : ℕ) → IsAsWide view width → AreEvents es → ArePlainEvents width_of view es
-    → IsAsWide (fold (event_done width_of) view es) width
+events_wide : EventsKeepViews → (width_of : List ℕ → ℕ) (es : List Event) (view : View) (width : ℕ) → IsAsWide width_of view width → AreEvents es → ArePlainEvents width_of view es
+    → IsAsWide width_of (fold (event_done width_of) view es) width
 events_wide keep width_of [] view width h k plain = h
 events_wide keep width_of (event ∷ es) view width h k plain =
-    let next : IsAsWide (event_done width_of view event) width =
+    let next : IsAsWide width_of (event_done width_of view event) width =
     record { lawful = keep width_of view event h.lawful k.0; same = event_width keep width_of view event h.lawful k.0 plain.0 ∙ h.same } in
     events_wide keep width_of es (event_done width_of view event) width next k.1 plain.1
 
 -- ---- streams
 
 -- the fresh cells after a plain stream are those of its rows
-fresh_rows : EventsKeepViews → StreamsHaveEvents → (width_of : List ℕ → ℕ) (view : View) (bytes : List ℕ) → IsView view → IsPlain width_of view bytes
+fresh_rows : EventsKeepViews → StreamsHaveEvents → (width_of : List ℕ → ℕ) (view : View) (bytes : List ℕ) → IsView width_of view → IsPlain width_of view bytes
     → fresh_after width_of view bytes ≡ rows_count view.state.screen.rows (after width_of view (read bytes)).state.screen.rows
 fresh_rows keep have width_of view bytes h plain =
     let wide = events_wide keep width_of (events view.stream (read bytes)) view view.state.screen.width (record { lawful = h; same = refl }) (have view.stream (read bytes) tt) plain in

@@ -19,16 +19,16 @@ use Rattle.screen_effects.specs.Effect.{blank_row, cleared_after, scrolled_up, s
 use Rattle.screen_effects.specs.Positions.{resolved, resolved_column}
 use Rattle.screen_effects.specs.Regions.{moved_up, moved_down, in_region}
 use Rattle.screen_effects.specs.Strokes.{Stroke, CarriageReturn as return_stroke, LineFeed as feed_stroke, stroke_done, scrolls}
-use Rattle.terminal_table.specs.State.{SavedCursor, State}
+use Rattle.terminal_table.specs.State.{SavedCursor, State, IsState}
 use Rattle.terminal_table.specs.Functions as table
-use Rattle.terminal_table.specs.Functions.{Move, ControlFunction}
+use Rattle.terminal_table.specs.Functions.{ControlFunction}
 use Rattle.terminal_table.specs.Steps.{active_column, target, at_position, reverse_index, erased_after, end_of_line_erased, rows_below_erased, line_erased, display_erased, with_rendition, on_pen, with_cursor, cursor_to_restore, reset_screen, screen_step, step_of}
 use Rattle.terminal_table.specs.Changes.{position, same_position, rendition_changes, cursor_changes, changes, changes_of, visibility}
 use Rattle.terminal_table.specs.Turns.{AreSingle, Turns}
 use Rattle.terminal_table.proofs.ListLemmas.{drop_past, append_nil, whole_region, take_set, map_same}
 
 -- the screen alone changes
-screen_turns : (d : Display) (new shown : Screen) → new ≡ shown → Turns d (record d { screen = new }) shown
+pub screen_turns : (d : Display) (new shown : Screen) → new ≡ shown → Turns d (record d { screen = new }) shown
 screen_turns d new shown e = record { screen = e; shape = refl; sizes = λ h. h }
 
 -- ---- positions
@@ -268,9 +268,11 @@ function_turns width_of table.ReportStatus saved d h = screen_turns d _ _ refl
 function_turns width_of table.ReportPosition saved d h = screen_turns d _ _ refl
 
 -- for a state whose screen the display shows: the changes turn the display into one that shows the screen after the function
-pub step_turns : (width_of : List ℕ → ℕ) (function : ControlFunction) (state : State) (d : Display) → IsDisplay d → d.screen ≡ state.screen → Turns d (replay width_of d (changes function state.saved state.screen)) (screen_step function state.saved state.screen)
-step_turns width_of function state d h e = subst (λ s. Turns d (replay width_of d (changes function state.saved s)) (screen_step function state.saved s)) e (function_turns width_of function state.saved d h)
+pub step_turns : (width_of : List ℕ → ℕ) (function : ControlFunction) (state : State) (d : Display) → IsState width_of state → IsDisplay d → d.screen ≡ state.screen
+    → Turns d (replay width_of d (changes function state.saved state.screen)) (screen_step function state.saved state.screen)
+step_turns width_of function state d p h e = subst (λ s. Turns d (replay width_of d (changes function state.saved s)) (screen_step function state.saved s)) e (function_turns width_of function state.saved d h)
 
-pub action_turns : (width_of : List ℕ → ℕ) (function : Option ControlFunction) (state : State) (d : Display) → IsDisplay d → d.screen ≡ state.screen → Turns d (replay width_of d (changes_of function state)) (step_of function state).screen
-action_turns width_of None state d h e = screen_turns d d.screen state.screen e
-action_turns width_of (Some function) state d h e = step_turns width_of function state d h e
+pub action_turns : (width_of : List ℕ → ℕ) (function : Option ControlFunction) (state : State) (d : Display) → IsState width_of state → IsDisplay d → d.screen ≡ state.screen
+    → Turns d (replay width_of d (changes_of function state)) (step_of function state).screen
+action_turns width_of None state d p h e = screen_turns d d.screen state.screen e
+action_turns width_of (Some function) state d p h e = step_turns width_of function state d p h e

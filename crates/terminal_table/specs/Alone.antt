@@ -5,9 +5,9 @@ use Rattle.escape_framing.specs.Held.{held_of, nothing_held}
 use Rattle.escape_stream.specs.StreamAction.{StreamAction, is_print, printed}
 use Rattle.escape_stream.specs.StreamText.{stream_text}
 use Rattle.terminal_table.specs.State.{State}
-use Rattle.terminal_table.specs.Functions.{function_of}
-use Rattle.terminal_table.specs.Steps.{step_of, run_step}
-use Rattle.terminal_table.specs.Changes.{changes_of, run_change}
+use Rattle.terminal_table.specs.Steps.{run_step}
+use Rattle.terminal_table.specs.Changes.{run_change}
+use Rattle.terminal_table.specs.Requests.{acted, acted_changes}
 use Rattle.terminal_table.specs.History.{History, Piece, Look}
 use Rattle.terminal_table.specs.Meaning.{View}
 
@@ -23,10 +23,10 @@ alone action = Piece (stream_text (action ∷ [])) ∷ Look ∷ []
 -- the state after the action's row of the table; the characters of a print action are a run
 abbrev pub row_done : (List ℕ → ℕ) → StreamAction → State → State
 row_done width_of action state =
-    if is_print action then run_step width_of (printed action) state else step_of (function_of action) state
+    if is_print action then run_step width_of (printed action) state else acted action state
 
 -- the changes that the action's row of the table logs
 abbrev pub row_logged : StreamAction → State → List LogStep
 row_logged action state =
     if is_print action then Logged (run_change (printed action)) ∷ []
-    else map Logged (changes_of (function_of action) state)
+    else map Logged (acted_changes action state)

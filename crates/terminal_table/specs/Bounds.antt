@@ -17,7 +17,7 @@ fresh_after width_of view bytes =
 -- cells, its own and a blank on each side
 abbrev pub PlainStreamsPrintAThird : Type 0
 PlainStreamsPrintAThird =
-    (width_of : List ℕ → ℕ) (view : View) (bytes : List ℕ) → IsView view → IsPlain width_of view bytes
+    (width_of : List ℕ → ℕ) (view : View) (bytes : List ℕ) → IsView width_of view → IsPlain width_of view bytes
     → fresh_after width_of view bytes ≤ 3 * length (prints width_of view bytes)
 
 -- no column of the screen is half of a wide text
@@ -33,7 +33,7 @@ IsNarrow screen = All (λ row. IsTrue (list_all is_narrow row)) screen.rows
 -- the stream prints none
 abbrev pub NarrowStreamsPrintAsMany : Type 0
 NarrowStreamsPrintAsMany =
-    (width_of : List ℕ → ℕ) (view : View) (bytes : List ℕ) → IsView view → IsPlain width_of view bytes
+    (width_of : List ℕ → ℕ) (view : View) (bytes : List ℕ) → IsView width_of view → IsPlain width_of view bytes
     → IsNarrow view.state.screen
     → All (λ p. width_of p.text ≤ 1) (prints width_of view bytes)
     → fresh_after width_of view bytes ≤ length (prints width_of view bytes)

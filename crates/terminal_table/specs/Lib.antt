@@ -1,3 +1,4 @@
+pub mod Modes
 pub mod State
 pub mod Functions
 pub mod Steps
@@ -11,3 +12,9 @@ pub mod Alone
 pub mod Replies
 pub mod Prints
 pub mod Bounds
+pub mod Led
+pub mod Xterm
+pub mod Request
+pub mod XtermRequests
+pub mod Requests
+pub mod Facts

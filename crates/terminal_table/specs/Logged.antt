@@ -4,8 +4,8 @@ use Rattle.escape_stream.specs.StreamAction.{StreamAction, is_print}
 use Rattle.screen_log.specs.Log.{most_due}
 use Rattle.screen_log.specs.LogSteps as log
 use Rattle.screen_log.specs.LogSteps.{LogStep, Logged, Sized, step_of_kept, log_of_kept}
-use Rattle.terminal_table.specs.Functions.{function_of}
-use Rattle.terminal_table.specs.Changes.{changes_of, run_change}
+use Rattle.terminal_table.specs.Changes.{run_change}
+use Rattle.terminal_table.specs.Requests.{acted_changes}
 use Rattle.terminal_table.specs.History.{History, Event, Act, Looked, Resized, Forgot, events}
 use Rattle.terminal_table.specs.Meaning.{View, new_view, settled, event_done}
 
@@ -17,7 +17,7 @@ run_logged view = if length view.held == 0 then [] else Logged (run_change view.
 abbrev pub action_logged : (List ℕ → ℕ) → View → StreamAction → List LogStep
 action_logged width_of view action =
     if is_print action then []
-    else run_logged view ++ map Logged (changes_of (function_of action) (settled width_of view).state)
+    else run_logged view ++ map Logged (acted_changes action (settled width_of view).state)
 
 -- what is logged for an event; a new size empties the log, and sets how many changes are due at most
 abbrev pub event_logged : (List ℕ → ℕ) → View → Event → List LogStep
@@ -40,7 +40,7 @@ logged width_of view history = events_logged width_of view (events view.stream h
 abbrev pub log_after : (List ℕ → ℕ) → View → Sized → History → Sized
 log_after width_of view log history = fold step_of_kept log (logged width_of view history)
 
--- the log of a history of a new terminal: its number counts the changes, and the new sizes that emptied a log that was
+-- the log of a history of a new plain terminal: its number counts the changes, and the new sizes that emptied a log that was
 -- not empty
 abbrev pub log_of : (List ℕ → ℕ) → ℕ → ℕ → History → Sized
 log_of width_of width height history =

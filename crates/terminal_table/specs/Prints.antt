@@ -7,9 +7,11 @@ use Rattle.escape_stream.specs.StreamAction.{is_print}
 use Rattle.screen_effects.specs.Strokes.{Stroke, Cluster}
 use Rattle.screen_difference.specs.Prints.{PlacedText, strokes_print, strokes_scroll}
 use Rattle.terminal_table.specs.Functions.{ControlFunction, LineFeed, NextRow, ReverseIndex, ScrollUp, ScrollDown}
-use Rattle.terminal_table.specs.Functions.{function_of}
 use Rattle.terminal_table.specs.History.{Event, Act, Looked, Resized, Forgot, History, Piece, Look, events}
 use Rattle.terminal_table.specs.Meaning.{View, settled, event_done}
+use Rattle.terminal_table.specs.Request.{Request, Table, Xterm, Sets}
+use Rattle.terminal_table.specs.Requests.{request_of}
+use Rattle.terminal_table.specs.State.{State}
 
 -- ---- runs
 
@@ -60,19 +62,22 @@ function_scrolls (ScrollUp n) screen = true
 function_scrolls (ScrollDown n) screen = true
 function_scrolls _ screen = false
 
--- whether the control function that an action asks for scrolls, and whether an event by itself does
-abbrev pub request_scrolls : Option ControlFunction → Screen → Bool
+-- whether what an action asks for scrolls, and whether an event by itself does; a function of xterm's own is logged as
+-- what it changes, and not as a scroll
+abbrev pub request_scrolls : Option Request → Screen → Bool
 request_scrolls None screen = false
-request_scrolls (Some function) screen = function_scrolls function screen
+request_scrolls (Some (Table function)) screen = function_scrolls function screen
+request_scrolls (Some (Xterm function)) screen = false
+request_scrolls (Some (Sets modes function)) screen = function_scrolls function screen
 
-abbrev pub event_scrolls : Event → Screen → Bool
-event_scrolls (Act action) screen = request_scrolls (function_of action) screen
-event_scrolls _ screen = false
+abbrev pub event_scrolls : Event → State → Bool
+event_scrolls (Act action) state = request_scrolls (request_of state.modes state.screen action) state.screen
+event_scrolls _ state = false
 
 -- An event by itself changes no row, and neither it nor a run that it ends scrolls.
 pub record IsPlainEvent (width_of : List ℕ → ℕ) (view : View) (event : Event) : Type 0 where
   pub rows : (event_done width_of view event).state.screen.rows ≡ (run_ended width_of view event).state.screen.rows
-  pub still : event_scrolls event (run_ended width_of view event).state.screen ≡ false
+  pub still : event_scrolls event (run_ended width_of view event).state ≡ false
   pub run : ends_run event ≡ true → strokes_scroll width_of view.state.screen (run_strokes view) ≡ false
 
 abbrev pub ArePlainEvents : (List ℕ → ℕ) → View → List Event → Type 0

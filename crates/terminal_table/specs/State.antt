@@ -1,8 +1,11 @@
--- What a terminal keeps for an application: the screen, a saved cursor, and replies.
-use Rattle.std.specs.Prelude.{ℕ, List, [], Option, None, All}
+-- What a terminal keeps for an application: the screen, a saved cursor, replies, and the modes of its profile.
+use Rattle.std.specs.Prelude.{◌≡◌, ℕ, List, [], Option, None, All}
 use Rattle.cell_base.specs.Attributes.{Attributes, plain}
+use Rattle.cell_base.specs.Row.{space}
 use Rattle.cell_base.specs.Screen.{Screen, IsScreen, new_screen}
 use Rattle.cell_base.specs.WholeRow.{IsWhole}
+use Rattle.screen_effects.specs.WrittenCells.{IsSoundRow}
+use Rattle.terminal_table.specs.Modes.{Modes}
 
 -- a cursor that was saved: its column (the width, where a wrap was pending), its row, and the pen
 pub record SavedCursor : Type 0 where
@@ -10,16 +13,21 @@ pub record SavedCursor : Type 0 where
   pub row : ℕ
   pub pen : Attributes
 
--- the screen with its cursor, pen and title; the cursor that was saved, if one was; and the replies that were not yet
--- taken
+-- the screen with its cursor, pen and title; the cursor that was saved, if one was; the replies that were not yet taken;
+-- and the modes of the profile xterm, none on a plain terminal
 pub record State : Type 0 where
   pub screen : Screen
   pub saved : Option SavedCursor
   pub replies : List ℕ
+  pub modes : Option Modes
 
--- a new terminal
+-- a new terminal with some modes or none; and a plain one
+abbrev pub new_state_with : Option Modes → ℕ → ℕ → State
+new_state_with modes width height =
+    record { screen = new_screen width height; saved = None; replies = []; modes = modes }
+
 abbrev pub new_state : ℕ → ℕ → State
-new_state width height = record { screen = new_screen width height; saved = None; replies = [] }
+new_state width height = new_state_with None width height
 
 -- the cursor of a screen, to be saved; and the one at home with a plain pen
 abbrev pub cursor_of : Screen → SavedCursor
@@ -28,7 +36,10 @@ cursor_of screen = record { column = screen.column; row = screen.row; pen = scre
 abbrev pub home_cursor : SavedCursor
 home_cursor = record { column = 0; row = 0; pen = plain }
 
--- the invariant of states: the screen is lawful, and its rows are whole
-pub record IsState (state : State) : Type 0 where
+-- the invariant of states: the screen is lawful, its rows are whole, and each of their cells has a sound text; a space
+-- takes one column
+pub record IsState (width_of : List ℕ → ℕ) (state : State) : Type 0 where
   pub lawful : IsScreen state.screen
   pub whole : All IsWhole state.screen.rows
+  pub narrow : width_of space ≡ 1
+  pub sound : All (IsSoundRow width_of) state.screen.rows

@@ -177,7 +177,7 @@ reply_step _ replies screen = replies
 
 -- the step of a control function
 abbrev pub step : ControlFunction → State → State
-step function state = record {
+step function state = record state {
   screen = screen_step function state.saved state.screen;
   saved = saved_step function state.saved state.screen;
   replies = reply_step function state.replies state.screen;

@@ -2,6 +2,7 @@
 use Rattle.std.specs.Prelude.{◌≡◌, ℕ, ◌<◌, ⊤, List, [], ◌∷◌, All, IsTrue, not}
 use Rattle.std.specs.List.{list_all}
 use Rattle.std.specs.Char.{is_ascii_control}
+use Rattle.std.specs.Str.{IsUtf8}
 use Rattle.cell_base.specs.declared.attributes.LineAttribute.{LineAttribute}
 use Rattle.cell_base.specs.declared.attributes.LineAttribute.TheVariants.{SingleWidthLine}
 use Rattle.cell_base.specs.Screen.{Screen}
@@ -33,10 +34,15 @@ pub record Turns (before after : Display) (shown : Screen) : Type 0 where
 abbrev pub IsPrinted : List ℕ → Type 0
 IsPrinted text = IsTrue (list_all (λ b. not (is_ascii_control b)) text)
 
--- the invariant of views: the state is lawful, and the held run has no controls
-pub record IsView (view : View) : Type 0 where
-  pub lawful : IsState view.state
-  pub plain : IsPrinted view.held
+-- a text that a run has: UTF-8, with no C0 control and no DEL
+pub record IsRunText (text : List ℕ) : Type 0 where
+  pub utf8 : IsUtf8 text
+  pub printed : IsPrinted text
+
+-- the invariant of views: the state is lawful, and the held run is UTF-8 without controls
+pub record IsView (width_of : List ℕ → ℕ) (view : View) : Type 0 where
+  pub lawful : IsState width_of view.state
+  pub plain : IsRunText view.held
 
 -- a size has a column and a row
 abbrev pub AreSizes : History → Type 0
@@ -46,9 +52,9 @@ AreSizes (Look ∷ history) = AreSizes history
 AreSizes (Resize width height ∷ history) = (0 < width) × (0 < height) × AreSizes history
 AreSizes (Forget number ∷ history) = AreSizes history
 
--- an event prints no controls, and its size has a column and a row
+-- an event prints UTF-8 without controls, and its size has a column and a row
 abbrev pub IsEvent : Event → Type 0
-IsEvent (Act action) = IsPrinted (printed action)
+IsEvent (Act action) = IsRunText (printed action)
 IsEvent Looked = ⊤
 IsEvent (Resized width height) = (0 < width) × (0 < height)
 IsEvent (Forgot number) = ⊤

@@ -1,9 +1,11 @@
 //! Laws of the table: each is the contract of a function that does nothing.
-ghost use Rattle.std.specs.Prelude.{false, ◌≡◌, ℕ, ◌<◌, List, ◌∷◌, ◌++◌, None, []};
+ghost use Rattle.std.specs.Prelude.{false, ◌≡◌, ℕ, ◌<◌, List, ◌∷◌, ◌++◌, Option, None, []};
+ghost use Rattle.cell_base.specs.Row.{space};
 ghost use Rattle.screen_effects.specs.Display.{Display, IsDisplay};
 ghost use Rattle.screen_effects.specs.Effect.{effect, replay};
 ghost use Rattle.escape_stream.specs.StreamWritable.{IsWritable};
 ghost use Rattle.terminal_table.specs.Alone.{IsIdle, alone, row_done, row_logged};
+ghost use Rattle.terminal_table.specs.Facts.{ActionsAreLogged, ActionsKeepStates, PlainTerminalsStay};
 ghost use Rattle.terminal_table.specs.Functions.{ControlFunction, function_of};
 ghost use Rattle.escape_framing.specs.Held.{held_of};
 ghost use Rattle.escape_stream.specs.StreamAction.{StreamAction, is_print};
@@ -12,10 +14,12 @@ ghost use Rattle.terminal_table.specs.History.{History, Piece, Forget, Event, Ac
 ghost use Rattle.terminal_table.specs.Logged.{run_logged, event_logged, logged};
 ghost use Rattle.terminal_table.specs.Meaning.{View, settled, event_done, after, with_size};
 ghost use Rattle.terminal_table.specs.Replies.{with_taken, without_replies};
-ghost use Rattle.terminal_table.specs.State.{State, IsState, new_state};
+ghost use Rattle.terminal_table.specs.Modes.{Modes};
+ghost use Rattle.terminal_table.specs.Requests.{AsksForNothing, acted, acted_changes};
+ghost use Rattle.terminal_table.specs.State.{State, IsState, new_state, new_state_with};
 ghost use Rattle.terminal_table.specs.Steps.{step, step_of, run_step};
 ghost use Rattle.terminal_table.specs.Changes.{changes, changes_of, run_change};
-ghost use Rattle.terminal_table.specs.Turns.{Turns, IsPrinted, IsView, AreSizes, IsEvent, AreEvents, DecideAlike};
+ghost use Rattle.terminal_table.specs.Turns.{Turns, IsRunText, IsView, AreSizes, IsEvent, AreEvents, DecideAlike};
 ghost use Rattle.terminal_table.specs.Turns.{replayed, all_replayed};
 
 use escape_framing::laws::{held_is_enough, idle_streams, one_cut};
@@ -27,55 +31,80 @@ use escape_stream::encoding_laws::writable_lists_read_on;
 /// the screen after the step.
 pub fn changes_have_the_effect_of_steps()
     ensures functions { (width_of : List ℕ → ℕ) (function : ControlFunction) (state : State) (display : Display)
-        → IsDisplay display → display.screen ≡ state.screen
+        → IsState width_of state → IsDisplay display → display.screen ≡ state.screen
         → Turns display (replay width_of display (changes function state.saved state.screen))
         (step function state).screen }
     ensures actions { (width_of : List ℕ → ℕ) (action : StreamAction) (state : State) (display : Display)
-        → IsDisplay display → display.screen ≡ state.screen
+        → IsState width_of state → IsDisplay display → display.screen ≡ state.screen
         → Turns display (replay width_of display (changes_of (function_of action) state))
         (step_of (function_of action) state).screen }
-    ensures runs { (width_of : List ℕ → ℕ) (text : List ℕ) (state : State) (display : Display) → IsPrinted text
-        → display.screen ≡ state.screen
+    ensures runs { (width_of : List ℕ → ℕ) (text : List ℕ) (state : State) (display : Display) → IsRunText text
+        → IsState width_of state → IsDisplay display → display.screen ≡ state.screen
         → Turns display (effect width_of display (run_change text)) (run_step width_of text state).screen }
 {}
 
-/// A new terminal's state is lawful, and a lawful state stays lawful after a step, a run or a new size.
-pub fn states_stay_lawful()
-    ensures new { (width : ℕ) (height : ℕ) → 0 < width → 0 < height → IsState (new_state width height) }
-    ensures steps { (function : ControlFunction) (state : State) → IsState state → IsState (step function state) }
-    ensures runs { (width_of : List ℕ → ℕ) (text : List ℕ) (state : State) → IsState state
-        → IsState (run_step width_of text state) }
-    ensures sizes { (width : ℕ) (height : ℕ) (state : State) → 0 < width → 0 < height → IsState state
-        → IsState (with_size width height state) }
+/// What all that stands above asks of the table, for each profile: the changes that are logged for an action turn a
+/// display of the screen before it into one of the screen after it, and states stay lawful. The third fact is a law of
+/// the crate `terminal_render`: each change that is logged has an encoding.
+pub fn actions_are_logged()
+    ensures logged { ActionsAreLogged }
+    ensures states { ActionsKeepStates }
 {}
 
-/// A stream prints no controls.
+/// On a plain terminal an action has the step, and the changes, of the control function of the table that it asks for;
+/// and a plain terminal stays one.
+pub fn plain_terminals_have_the_table()
+    ensures state { (action : StreamAction) (state : State) → state.modes ≡ None
+        → acted action state ≡ step_of (function_of action) state }
+    ensures changes { (action : StreamAction) (state : State) → state.modes ≡ None
+        → acted_changes action state ≡ changes_of (function_of action) state }
+    ensures stays { PlainTerminalsStay }
+{}
+
+/// A new terminal's state is lawful, where a space takes one column, and a lawful state stays lawful after a step, a
+/// run or a new size: so each cell of its screen stays a text that is by itself one cluster (UAX 29), without C0
+/// controls and DEL, in the columns that it takes.
+pub fn states_stay_lawful()
+    ensures new { (width_of : List ℕ → ℕ) (width : ℕ) (height : ℕ) → width_of space ≡ 1 → 0 < width → 0 < height
+        → IsState width_of (new_state width height) }
+    ensures modes { (width_of : List ℕ → ℕ) (modes : Option Modes) (width : ℕ) (height : ℕ) → width_of space ≡ 1
+        → 0 < width → 0 < height → IsState width_of (new_state_with modes width height) }
+    ensures steps { (width_of : List ℕ → ℕ) (function : ControlFunction) (state : State) → IsState width_of state
+        → IsState width_of (step function state) }
+    ensures runs { (width_of : List ℕ → ℕ) (text : List ℕ) (state : State) → IsRunText text → IsState width_of state
+        → IsState width_of (run_step width_of text state) }
+    ensures sizes { (width_of : List ℕ → ℕ) (width : ℕ) (height : ℕ) (state : State) → 0 < width → 0 < height
+        → IsState width_of state → IsState width_of (with_size width height state) }
+{}
+
+/// A stream prints UTF-8 without controls.
 pub fn prints_hold_no_controls()
     ensures { (stream : List ℕ) (history : History) → AreSizes history → AreEvents (events stream history) }
 {
     one_cut();
 }
 
-/// An action for which the terminal has no control function leaves the state as it is, with the screen,
-/// its pen and title, the saved cursor and the replies, and has no changes. Where it is no print it
-/// ends a run, and nothing else.
+/// An action for which the table has no control function leaves the state as it is, with the screen,
+/// its pen and title, the saved cursor and the replies, and has no changes. One that asks for nothing in the
+/// terminal's profile, and is no print, ends a run, and nothing else.
 pub fn other_actions_end_runs()
     ensures state { (action : StreamAction) (state : State) → function_of action ≡ None
         → step_of (function_of action) state ≡ state }
     ensures changes { (action : StreamAction) (state : State) → function_of action ≡ None
         → changes_of (function_of action) state ≡ [] }
     ensures view { (width_of : List ℕ → ℕ) (view : View) (action : StreamAction) → is_print action ≡ false
-        → function_of action ≡ None → event_done width_of view (Act action) ≡ settled width_of view }
+        → AsksForNothing view.state.modes action
+        → event_done width_of view (Act action) ≡ settled width_of view }
     ensures logged { (width_of : List ℕ → ℕ) (view : View) (action : StreamAction) → is_print action ≡ false
-        → function_of action ≡ None → event_logged width_of view (Act action) ≡ run_logged view }
+        → AsksForNothing view.state.modes action → event_logged width_of view (Act action) ≡ run_logged view }
 {}
 
 /// Histories leave lawful views, if each size has a column and a row.
 pub fn views_stay_lawful()
-    ensures event { (width_of : List ℕ → ℕ) (view : View) (event : Event) → IsView view → IsEvent event
-        → IsView (event_done width_of view event) }
-    ensures history { (width_of : List ℕ → ℕ) (view : View) (history : History) → IsView view → AreSizes history
-        → IsView (after width_of view history) }
+    ensures event { (width_of : List ℕ → ℕ) (view : View) (event : Event) → IsView width_of view → IsEvent event
+        → IsView width_of (event_done width_of view event) }
+    ensures history { (width_of : List ℕ → ℕ) (view : View) (history : History) → IsView width_of view
+        → AreSizes history → IsView width_of (after width_of view history) }
 {
     one_cut();
 }
@@ -83,11 +112,11 @@ pub fn views_stay_lawful()
 /// The changes that are logged for an event, and for a history, have on a display the effect of the table:
 /// replayed on a display that shows the screen before, they leave one that shows the screen after.
 pub fn logged_changes_show_the_meaning()
-    ensures event { (width_of : List ℕ → ℕ) (view : View) (event : Event) (display : Display) → IsView view
+    ensures event { (width_of : List ℕ → ℕ) (view : View) (event : Event) (display : Display) → IsView width_of view
         → IsEvent event → IsDisplay display → display.screen ≡ view.state.screen
         → Turns display (replayed width_of view event display) (event_done width_of view event).state.screen }
-    ensures history { (width_of : List ℕ → ℕ) (view : View) (history : History) (display : Display) → IsView view
-        → AreSizes history → IsDisplay display → display.screen ≡ view.state.screen
+    ensures history { (width_of : List ℕ → ℕ) (view : View) (history : History) (display : Display)
+        → IsView width_of view → AreSizes history → IsDisplay display → display.screen ≡ view.state.screen
         → Turns display (all_replayed width_of view (events view.stream history) display)
         (after width_of view history).state.screen }
 {

@@ -14,25 +14,27 @@ use Rattle.escape_stream.specs.StreamText.{closes_string, is_string_terminator}
 use Rattle.escape_stream.specs.StreamWritable.{characters_of, read_form, read_form_after, string_terminator, terminator_before}
 use Rattle.screen_effects.specs.Strokes.{Cluster}
 use Rattle.screen_difference.specs.Prints.{PlacedText, strokes_print, strokes_scroll}
-use Rattle.terminal_table.specs.Prints.{ArePlainEvents, IsPlainEvent, event_prints, events_print, request_scrolls, run_ended}
+use Rattle.terminal_table.specs.Prints.{ArePlainEvents, IsPlainEvent, event_prints, event_scrolls, events_print, request_scrolls, run_ended}
 use Rattle.terminal_render.specs.Effects.{actions_done}
 use Rattle.terminal_render.specs.Pen.{rendition, set}
 use Rattle.terminal_render.specs.Texts.{run_actions}
-use Rattle.terminal_render.proofs.FedLemmas.{joined}
+use Rattle.terminal_render.proofs.FedLemmas.{joined, terminator_done}
 use Rattle.terminal_table.specs.Functions.{function_of}
 use Rattle.terminal_table.specs.History.{Event, Act}
 use Rattle.terminal_table.specs.Meaning.{View, event_done, settled}
+use Rattle.terminal_table.specs.Modes.{Modes}
+use Rattle.terminal_table.specs.Requests.{acted, request_done, request_of}
 use Rattle.terminal_table.specs.State.{State}
-use Rattle.terminal_table.specs.Steps.{step_of}
+use Rattle.terminal_table.proofs.ModesLemmas.{plain_event, settled_modes}
 use Rattle.terminal_table.proofs.RunLemmas.{no_clusters}
 use Rattle.terminal_table.proofs.TextLemmas.{with_text}
 
--- ---- actions that print nothing and leave rows as they are
+-- ---- actions that print nothing and leave a plain terminal's rows as they are
 
 pub record IsQuiet (a : StreamAction) : Type 0 where
   pub separate : is_print a ≡ false
-  pub rows : (state : State) → (step_of (function_of a) state).screen.rows ≡ state.screen.rows
-  pub still : (state : State) → request_scrolls (function_of a) state.screen ≡ false
+  pub rows : (state : State) → (request_done (request_of None state.screen a) state).screen.rows ≡ state.screen.rows
+  pub still : (state : State) → request_scrolls (request_of None state.screen a) state.screen ≡ false
 
 abbrev pub AreQuiet : List StreamAction → Type 0
 AreQuiet = AllByRecursion IsQuiet
@@ -57,6 +59,18 @@ reset_quiet = rendition_quiet sgr.Reset
 terminator_quiet : IsQuiet string_terminator
 unfolding function_of
 terminator_quiet = record { separate = refl; rows = λ state. refl; still = λ state. refl }
+
+-- ---- a plain terminal's view that holds no run
+
+pub record IsBare (v : View) : Type 0 where
+  pub run : v.held ≡ []
+  pub plain : v.state.modes ≡ None
+
+abbrev bare : View → View
+bare v = record v { state = record v.state { modes = None }; held = [] }
+
+is_bare : (v : View) → IsBare v → bare v ≡ v
+is_bare v b = λ i. record v { state = record v.state { modes = sym b.plain i }; held = sym b.run i }
 
 -- ---- the texts of actions
 
@@ -102,9 +116,21 @@ module _ (f : List ℕ → ℕ) where
   pub are_plain_append : (v : View) (xs ys : List StreamAction) → ArePlain v xs → ArePlain (actions_done f v xs) ys → ArePlain v (xs ++ ys)
   are_plain_append v xs ys p q = subst (ArePlainEvents f v) (sym (map-append Act xs ys)) (plain_append v (map Act xs) (map Act ys) p q)
 
-  -- where no run is held a quiet action prints nothing, and holds none
-  is_empty : (v : View) → v.held ≡ [] → record v { held = [] } ≡ v
-  is_empty v e = λ i. record v { held = sym e i }
+  -- a quiet action changes no row and scrolls nothing; where no run is held it prints nothing, and holds none
+  quiet_rows : (v : View) (a : StreamAction) → v.state.modes ≡ None → IsQuiet a → (event_done f v (Act a)).state.screen.rows ≡ (run_ended f v (Act a)).state.screen.rows
+  quiet_rows v a plain q =
+      let own : State = (settled f v).state in
+      subst (λ b. (if b then record v { held = v.held ++ action.printed a } else record (settled f v) { state = acted a own }).state.screen.rows ≡ (if not b then settled f v else v).state.screen.rows) (sym q.separate)
+      (ap (λ (modes : Option Modes). (request_done (request_of modes own.screen a) own).screen.rows) (settled_modes f v ∙ plain) ∙ q.rows own)
+
+  quiet_still : (v : View) (a : StreamAction) → v.state.modes ≡ None → IsQuiet a → event_scrolls (Act a) (run_ended f v (Act a)).state ≡ false
+  quiet_still v a plain q =
+      let own : State = (run_ended f v (Act a)).state in
+      ap (λ (modes : Option Modes). request_scrolls (request_of modes own.screen a) own.screen) (choose (not (is_print a))) ∙ q.still own
+    where
+      choose : (b : Bool) → (if b then settled f v else v).state.modes ≡ None
+      choose true = settled_modes f v ∙ plain
+      choose false = plain
 
   quiet_prints : (v : View) (a : StreamAction) → v.held ≡ [] → IsQuiet a → event_prints f v (Act a) ≡ []
   quiet_prints v a e q =
@@ -112,19 +138,18 @@ module _ (f : List ℕ → ℕ) where
       ∙ (λ i. strokes_print f v.state.screen (map Cluster (clusters (e i))))
       ∙ ap (λ (ts : List (List ℕ)). strokes_print f v.state.screen (map Cluster ts)) no_clusters
 
-  quiet_plain : (v : View) (a : StreamAction) → v.held ≡ [] → IsQuiet a → IsPlainEvent f v (Act a)
-  quiet_plain v a e q = record {
-    rows = subst (λ b. (if b then record v { held = v.held ++ printed_by } else record (settled f v) { state = step_of (function_of a) (settled f v).state }).state.screen.rows ≡ (if not b then settled f v else v).state.screen.rows)
-        (sym q.separate) (q.rows (settled f v).state);
-    still = q.still (run_ended f v (Act a)).state;
-    run = λ _. (λ i. strokes_scroll f v.state.screen (map Cluster (clusters (e i)))) ∙ ap (λ (ts : List (List ℕ)). strokes_scroll f v.state.screen (map Cluster ts)) no_clusters;
+  quiet_plain : (v : View) (a : StreamAction) → IsBare v → IsQuiet a → IsPlainEvent f v (Act a)
+  quiet_plain v a b q = record {
+    rows = quiet_rows v a b.plain q;
+    still = quiet_still v a b.plain q;
+    run = λ _. (λ i. strokes_scroll f v.state.screen (map Cluster (clusters (b.run i)))) ∙ ap (λ (ts : List (List ℕ)). strokes_scroll f v.state.screen (map Cluster ts)) no_clusters;
   }
-    where
-      printed_by : List ℕ
-      printed_by = action.printed a
 
   quiet_held : (v : View) (a : StreamAction) → IsQuiet a → (event_done f v (Act a)).held ≡ []
-  quiet_held v a q = ap (λ b. (if b then record v { held = v.held ++ action.printed a } else record (settled f v) { state = step_of (function_of a) (settled f v).state }).held) q.separate
+  quiet_held v a q = ap (λ b. (if b then record v { held = v.held ++ action.printed a } else record (settled f v) { state = acted a (settled f v).state }).held) q.separate
+
+  quiet_bare : (v : View) (a : StreamAction) → IsBare v → IsQuiet a → IsBare (event_done f v (Act a))
+  quiet_bare v a b q = record { run = quiet_held v a q; plain = plain_event f v (Act a) b.plain }
 
   -- ---- the actions of an encoding
 
@@ -144,29 +169,36 @@ module _ (f : List ℕ → ℕ) where
   pub none_sends : (v : View) → Sends v [] []
   none_sends v = record { prints = refl; plain = tt; utf8 = tt }
 
-  pub quiet_sends : (v : View) (actions : List StreamAction) → v.held ≡ [] → AreQuiet actions → Sends v actions []
-  quiet_sends v [] e q = none_sends v
-  quiet_sends v (a ∷ actions) e q =
-      let rest = quiet_sends (event_done f v (Act a)) actions (quiet_held v a q.0) q.1 in
+  pub quiet_sends : (v : View) (actions : List StreamAction) → IsBare v → AreQuiet actions → Sends v actions []
+  quiet_sends v [] b q = none_sends v
+  quiet_sends v (a ∷ actions) b q =
+      let rest = quiet_sends (event_done f v (Act a)) actions (quiet_bare v a b q.0) q.1 in
       record {
-        prints = (λ i. quiet_prints v a e q.0 i ++ rest.prints i);
-        plain = (quiet_plain v a e q.0, rest.plain);
+        prints = (λ i. quiet_prints v a b.run q.0 i ++ rest.prints i);
+        plain = (quiet_plain v a b q.0, rest.plain);
         utf8 = (quiet_text a q.0.separate, rest.utf8);
       }
 
   -- a text that is printed, and NUL
-  run_of_empty : (v : View) (text : List ℕ) → IsUtf8 text → strokes_scroll f v.state.screen (map Cluster (clusters text)) ≡ false
-      → Sends (record v { held = [] }) (run_actions text) (strokes_print f v.state.screen (map Cluster (clusters text)))
+  nul_quiet : IsQuiet (control 0)
   unfolding function_of
-  run_of_empty v text u still = record {
+  nul_quiet = record { separate = refl; rows = λ state. refl; still = λ state. refl }
+
+  run_of_bare : (v : View) (text : List ℕ) → IsUtf8 text → strokes_scroll f v.state.screen (map Cluster (clusters text)) ≡ false
+      → Sends (bare v) (run_actions text) (strokes_print f v.state.screen (map Cluster (clusters text)))
+  unfolding function_of
+  run_of_bare v text u still = record {
     prints = append-nil (strokes_print f v.state.screen (map Cluster (clusters text)));
-    plain = (record { rows = refl; still = refl; run = λ e. cc }, (record { rows = refl; still = refl; run = λ e. still }, tt));
+    plain = (record { rows = refl; still = refl; run = λ e. cc }, (record { rows = quiet_rows holding (control 0) refl nul_quiet; still = quiet_still holding (control 0) refl nul_quiet; run = λ e. still }, tt));
     utf8 = (u, (tt, tt));
   }
+    where
+      holding : View
+      holding = record (bare v) { held = text }
 
-  pub run_sends : (v : View) (text : List ℕ) → v.held ≡ [] → IsUtf8 text → strokes_scroll f v.state.screen (map Cluster (clusters text)) ≡ false
+  pub run_sends : (v : View) (text : List ℕ) → IsBare v → IsUtf8 text → strokes_scroll f v.state.screen (map Cluster (clusters text)) ≡ false
       → Sends v (run_actions text) (strokes_print f v.state.screen (map Cluster (clusters text)))
-  run_sends v text e u still = subst (λ w. Sends w (run_actions text) (strokes_print f v.state.screen (map Cluster (clusters text)))) (is_empty v e) (run_of_empty v text u still)
+  run_sends v text b u still = subst (λ w. Sends w (run_actions text) (strokes_print f v.state.screen (map Cluster (clusters text)))) (is_bare v b) (run_of_bare v text u still)
 
   -- ---- the actions that are read back
 
@@ -175,39 +207,38 @@ module _ (f : List ℕ → ℕ) where
   characters_print v [] = refl
   characters_print v (c ∷ cs) = characters_print (event_done f v (Act (print c))) cs
 
-  characters_plain : (v : View) (cs : List ℕ) → ArePlain v (map print cs)
+  characters_plain : (v : View) (cs : List ℕ) → v.state.modes ≡ None → ArePlain v (map print cs)
   unfolding function_of
-  characters_plain v [] = tt
-  characters_plain v (c ∷ cs) = (record { rows = refl; still = refl; run = λ e. cc }, characters_plain (event_done f v (Act (print c))) cs)
+  characters_plain v [] plain = tt
+  characters_plain v (c ∷ cs) plain = (
+    record { rows = refl; still = ap (λ (modes : Option Modes). request_scrolls (request_of modes v.state.screen (print c)) v.state.screen) plain; run = λ e. cc },
+    characters_plain (event_done f v (Act (print c))) cs plain,
+  )
 
   one_prints : (a : StreamAction) (v : View) → actions_print v (characters_of a) ≡ event_prints f v (Act a)
   one_prints (print_string text) v = characters_print v (chars text)
   one_prints a v = append-nil (event_prints f v (Act a))
 
-  one_plain : (a : StreamAction) (v : View) → IsPlainEvent f v (Act a) → ArePlain v (characters_of a)
-  one_plain (print_string text) v p = characters_plain v (chars text)
-  one_plain a v p = (p, tt)
+  one_plain : (a : StreamAction) (v : View) → v.state.modes ≡ None → IsPlainEvent f v (Act a) → ArePlain v (characters_of a)
+  one_plain (print_string text) v plain p = characters_plain v (chars text) plain
+  one_plain a v plain p = (p, tt)
 
   one_done : (a : StreamAction) (v : View) → HasText a → actions_done f v (characters_of a) ≡ event_done f v (Act a)
   one_done (print_string text) v u = with_text f v (chars text) ∙ (λ i. record v { held = v.held ++ encodes-chars text u i })
   one_done a v u = refl
 
   -- a string terminator that is added does nothing
-  terminator_done : (v : View) → v.held ≡ [] → actions_done f v (string_terminator ∷ []) ≡ v
-  unfolding function_of
-  terminator_done v e = ap (λ run. actions_done f (record v { held = run }) (string_terminator ∷ [])) e ∙ is_empty v e
-
   added_done : (closed stands : Bool) (v : View) → (closed ≡ true → v.held ≡ []) → actions_done f v (terminator_before closed stands) ≡ v
   added_done true true v h = refl
-  added_done true false v h = terminator_done v (h refl)
+  added_done true false v h = terminator_done f v (h refl)
   added_done false true v h = refl
   added_done false false v h = refl
 
-  added_sends : (closed stands : Bool) (v : View) → (closed ≡ true → v.held ≡ []) → Sends v (terminator_before closed stands) []
-  added_sends true true v h = none_sends v
-  added_sends true false v h = quiet_sends v (string_terminator ∷ []) (h refl) (terminator_quiet, tt)
-  added_sends false true v h = none_sends v
-  added_sends false false v h = none_sends v
+  added_sends : (closed stands : Bool) (v : View) → v.state.modes ≡ None → (closed ≡ true → v.held ≡ []) → Sends v (terminator_before closed stands) []
+  added_sends true true v plain h = none_sends v
+  added_sends true false v plain h = quiet_sends v (string_terminator ∷ []) (record { run = h refl; plain = plain }) (terminator_quiet, tt)
+  added_sends false true v plain h = none_sends v
+  added_sends false false v plain h = none_sends v
 
   closed_run : (a : StreamAction) (v : View) → closes_string a ≡ true → (event_done f v (Act a)).held ≡ []
   closed_run (command c) v e = refl
@@ -215,28 +246,28 @@ module _ (f : List ℕ → ℕ) where
   closed_run _ v e = cc
 
   -- the actions that are read back print the same texts, and are plain
-  read_after : (closed : Bool) (actions : List StreamAction) (v : View) (texts : List PlacedText) → (closed ≡ true → v.held ≡ []) → Sends v actions texts
+  read_after : (closed : Bool) (actions : List StreamAction) (v : View) (texts : List PlacedText) → v.state.modes ≡ None → (closed ≡ true → v.held ≡ []) → Sends v actions texts
       → (actions_print v (read_form_after closed actions) ≡ texts) × ArePlain v (read_form_after closed actions)
-  read_after closed [] v texts h p = let added = added_sends closed false v h in (added.prints ∙ p.prints, added.plain)
-  read_after closed (a ∷ remaining) v texts h p =
+  read_after closed [] v texts plain h p = let added = added_sends closed false v plain h in (added.prints ∙ p.prints, added.plain)
+  read_after closed (a ∷ remaining) v texts plain h p =
       let stands : Bool = is_string_terminator a in
       let before : List StreamAction = terminator_before closed stands in
       let own : List StreamAction = characters_of a in
       let next : View = event_done f v (Act a) in
       let rest : List StreamAction = read_form_after (closes_string a) remaining in
-      let added = added_sends closed stands v h in
+      let added = added_sends closed stands v plain h in
       let same : actions_done f v before ≡ v = added_done closed stands v h in
       let after : actions_done f v (before ++ own) ≡ next = joined f before own v ∙ ap (λ w. actions_done f w own) same ∙ one_done a v p.utf8.0 in
-      let later = read_after (closes_string a) remaining next (actions_print next remaining) (closed_run a v) (record { prints = refl; plain = p.plain.1; utf8 = p.utf8.1 }) in (
+      let later = read_after (closes_string a) remaining next (actions_print next remaining) (plain_event f v (Act a) plain) (closed_run a v) (record { prints = refl; plain = p.plain.1; utf8 = p.utf8.1 }) in (
         print_append v (before ++ own) rest
             ∙ (λ i. print_append v before own i ++ actions_print (after i) rest)
             ∙ (λ i. (added.prints i ++ actions_print (same i) own) ++ actions_print next rest)
             ∙ (λ i. one_prints a v i ++ later.0 i)
             ∙ p.prints,
         are_plain_append v (before ++ own) rest
-            (are_plain_append v before own added.plain (subst (λ w. ArePlain w own) (sym same) (one_plain a v p.plain.0)))
+            (are_plain_append v before own added.plain (subst (λ w. ArePlain w own) (sym same) (one_plain a v plain p.plain.0)))
             (subst (λ w. ArePlain w rest) (sym after) later.1),
       )
 
-  pub read_prints : (actions : List StreamAction) (v : View) (texts : List PlacedText) → Sends v actions texts → (actions_print v (read_form actions) ≡ texts) × ArePlain v (read_form actions)
-  read_prints actions v texts p = read_after false actions v texts (λ e. cc) p
+  pub read_prints : (actions : List StreamAction) (v : View) (texts : List PlacedText) → v.state.modes ≡ None → Sends v actions texts → (actions_print v (read_form actions) ≡ texts) × ArePlain v (read_form actions)
+  read_prints actions v texts plain p = read_after false actions v texts plain (λ e. cc) p

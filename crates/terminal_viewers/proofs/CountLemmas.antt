@@ -25,7 +25,8 @@ use Rattle.screen_log.specs.Log.{Log, due, first_number, most_due}
 use Rattle.screen_log.specs.LogSteps.{Sized}
 use Rattle.screen_effects.specs.Effect.{cursor_row}
 use Rattle.screen_repaint.specs.Repaint.{cursor_shown, end_cleared, go_with_blanks, in_next_row, pen_left, row_cells, row_painted, rows_painted}
-use Rattle.terminal_viewers.specs.Update.{due_or, last_cell, painted_anew, as_encoded, update_changes, written_again}
+use Rattle.terminal_table.specs.Led.{last_cell, written_again}
+use Rattle.terminal_viewers.specs.Update.{due_or, painted_anew, as_encoded, update_changes}
 use Rattle.terminal_viewers.proofs.PaintLemmas.{due_of, prefix_of, painted_rows, position_of, encoded_here, encoded_is, encoded_there}
 
 -- ---- runs of cells

@@ -1,9 +1,9 @@
 -- A terminal that can answer viewers still can after any history; a waiting viewer rests after the sizes of a history, and after a look.
 use Rattle.std.proofs.Common.{◌≡◌, ℕ, ◌-◌, ◌<◌, ◌^◌, List, [], ◌∷◌, ◌++◌, length, take, map, replicate, fold, refl, sym, ap, subst, ◌∙◌, arith, append-nil, length-append, length-take}
-use Rattle.std.specs.Prelude.{⊤}
+use Rattle.std.specs.Prelude.{⊤, None, option_map}
 use Rattle.std.proofs.lemmas.List.{length-replicate}
 use Rattle.std.proofs.lemmas.List.Sums.{fold-append}
-use Rattle.cell_base.specs.Row.{plain_row, space}
+use Rattle.cell_base.specs.Row.{plain_row}
 use Rattle.cell_base.specs.Screen.{Screen, height}
 use Rattle.escape_framing.specs.Held.{held_of, nothing_held}
 use Rattle.screen_effects.specs.Resize.{resized_row, resized_screen}
@@ -16,17 +16,18 @@ use Rattle.terminal_table.specs.Alone.{IsIdle}
 use Rattle.terminal_table.specs.History.{History, Piece, Look, Resize, Forget, pieces, events}
 use Rattle.screen_log.specs.LogSteps.{step_of_kept}
 use Rattle.terminal_table.specs.Logged.{log_after, logged}
-use Rattle.terminal_table.specs.Meaning.{View, settled, event_done, after, with_size}
+use Rattle.terminal_table.specs.Meaning.{View, settled, event_done, after}
 use Rattle.terminal_table.specs.State.{State}
 use Rattle.terminal_table.specs.Turns.{AreSizes}
 use Rattle.terminal_table.proofs.EventLemmas.{after_is}
 use Rattle.terminal_table.proofs.JoinLemmas.{after_joins, logged_joins}
+use Rattle.terminal_table.specs.Modes.{resized_modes}
+use Rattle.terminal_table.proofs.ModesLemmas.{plain_terminals_stay}
 use Rattle.terminal_table.proofs.PrintLemmas.{AllCut}
 use Rattle.terminal_viewers.specs.Updates.{Standing, standing_after}
 use Rattle.terminal_viewers.specs.Viewers.{repeated}
 use Rattle.terminal_viewers.proofs.DueLemmas.{steps_reach}
 use Rattle.terminal_viewers.proofs.ShowLemmas.{history_shows}
-use Rattle.terminal_viewers.proofs.SoundLemmas.{history_sound}
 
 -- ---- the sizes of a history
 
@@ -97,20 +98,19 @@ module _ (cut : AllCut) (width_of : List ℕ → ℕ) where
   after_small : (s : Standing) (history : History) → CanAnswer width_of s → AreSteps history → IsSmall (after width_of s.view history).state.screen
   after_small s history can h =
       let screen = s.view.state.screen in
-      let shows = history_shows width_of cut screen 0 s.view s.log history can.lawful (steps_are_sizes history h) (display_on_is s.view.state can.lawful.lawful) can.counted (omega arith)
+      let shows = history_shows width_of cut screen 0 s.view s.log history can.lawful (steps_are_sizes history h) (display_on_is screen can.lawful.lawful.lawful can.lawful.lawful.whole) can.counted (omega arith)
       (record { wide = refl; tall = refl; leads = tt }) in
       let small = repeated_small history screen h (record { wide = can.wide; tall = can.tall }) in
       record { wide = subst (λ n. n < 2 ^ 32) shows.wide small.wide; tall = subst (λ n. n < 2 ^ 32) shows.tall small.tall }
 
-  pub can_answer_after : width_of space ≡ 1 → (s : Standing) (history : History) → CanAnswer width_of s → AreSteps history → CanAnswer width_of (standing_after width_of s history)
-  can_answer_after narrow s history can h =
+  pub can_answer_after : (s : Standing) (history : History) → CanAnswer width_of s → AreSteps history → CanAnswer width_of (standing_after width_of s history)
+  can_answer_after s history can h =
       let are = steps_are_sizes history h in
       let small = after_small s history can h in
       record {
         lawful = after_is cut width_of s.view history can.lawful are;
         wide = small.wide;
         tall = small.tall;
-        sound = history_sound width_of narrow cut s.view history can.lawful are can.spelled can.sound;
         spelled = history_spelled cut width_of s.view history can.lawful are can.spelled;
         encodings = history_keeps cut width_of s.view history s.log can.lawful are can.spelled can.encodings;
         counted = (steps_reach 0 (logged width_of s.view history) s.log (record { counted = can.counted; reached = omega arith })).counted;
@@ -118,49 +118,56 @@ module _ (cut : AllCut) (width_of : List ℕ → ℕ) where
 
 -- ---- a viewer that waits
 
--- the later view has this screen, and nothing is unfinished there
+-- the later view is a plain terminal's, has this screen, and nothing is unfinished there
 pub record Rests (later : View) (screen : Screen) : Type 0 where
   pub screen_is : later.state.screen ≡ screen
   pub idle : IsIdle later
+  pub plain : later.state.modes ≡ None
 
 module _ (width_of : List ℕ → ℕ) where
   -- a view that holds nothing
   abbrev waiting : State → List ℕ → View
   waiting state stream = record { state = state; stream = stream; held = [] }
 
-  sizes_done : (history : History) (stream : List ℕ) (state : State) (read : List ℕ)
+  sizes_done : (history : History) (stream : List ℕ) (state : State) (read : List ℕ) → state.modes ≡ None
       → fold (event_done width_of) (waiting state read) (events stream (sizes history)) ≡ waiting (record state { screen = repeated history state.screen }) read
-  sizes_done [] stream state read = refl
-  sizes_done (Piece bytes ∷ history) stream state read = sizes_done history stream state read
-  sizes_done (Look ∷ history) stream state read = sizes_done history stream state read
-  sizes_done (Resize width tall ∷ history) stream state read = sizes_done history stream (with_size width tall state) read
-  sizes_done (Forget number ∷ history) stream state read = sizes_done history stream state read
+  sizes_done [] stream state read e = refl
+  sizes_done (Piece bytes ∷ history) stream state read e = sizes_done history stream state read e
+  sizes_done (Look ∷ history) stream state read e = sizes_done history stream state read e
+  sizes_done (Resize width tall ∷ history) stream state read e =
+      let next : State = record state { screen = resized_screen width tall state.screen } in
+      let same : option_map resized_modes state.modes ≡ state.modes = ap (option_map resized_modes) e ∙ sym e in
+      (λ i. fold (event_done width_of) (waiting (record next { modes = same i }) read) (events stream (sizes history))) ∙ sizes_done history stream next read e
+  sizes_done (Forget number ∷ history) stream state read e = sizes_done history stream state read e
 
   -- it takes on the sizes of a history, and nothing else happens
-  pub rests_after_sizes : (history : History) (v : View) → IsIdle v → Rests (after width_of v (sizes history)) (repeated history v.state.screen)
-  rests_after_sizes history v idle =
+  pub rests_after_sizes : (history : History) (v : View) → IsIdle v → v.state.modes ≡ None → Rests (after width_of v (sizes history)) (repeated history v.state.screen)
+  rests_after_sizes history v idle plain =
       let done : fold (event_done width_of) v (events v.stream (sizes history)) ≡ waiting (record v.state { screen = repeated history v.state.screen }) v.stream =
-      ap (λ (held : List ℕ). fold (event_done width_of) (record v { held = held }) (events v.stream (sizes history))) idle.run ∙ sizes_done history v.stream v.state v.stream in
+      ap (λ (held : List ℕ). fold (event_done width_of) (record v { held = held }) (events v.stream (sizes history))) idle.run ∙ sizes_done history v.stream v.state v.stream plain in
       record {
         screen_is = ap (λ (x : View). x.state.screen) done;
         idle = record {
           run = ap (λ (x : View). x.held) done;
           stream = subst (λ stream. held_of stream ≡ nothing_held) (sym (ap (λ bytes. v.stream ++ bytes) (no_pieces history) ∙ append-nil v.stream)) idle.stream;
         };
+        plain = plain_terminals_stay width_of v (sizes history) plain;
       }
 
   -- a look changes nothing of a viewer at rest
-  pub rests_after_look : (v : View) → IsIdle v → Rests (after width_of v (Look ∷ [])) v.state.screen
-  rests_after_look v idle = record {
+  pub rests_after_look : (v : View) → IsIdle v → v.state.modes ≡ None → Rests (after width_of v (Look ∷ [])) v.state.screen
+  rests_after_look v idle plain = record {
     screen_is = ap (λ (held : List ℕ). (settled width_of (record v { held = held })).state.screen) idle.run;
     idle = record { run = refl; stream = subst (λ stream. held_of stream ≡ nothing_held) (sym (append-nil v.stream)) idle.stream };
+    plain = plain_terminals_stay width_of v (Look ∷ []) plain;
   }
 
   -- nor does forgetting
-  pub rests_after_forgetting : (number : ℕ) (v : View) → IsIdle v → Rests (after width_of v (Forget number ∷ [])) v.state.screen
-  rests_after_forgetting number v idle = record {
+  pub rests_after_forgetting : (number : ℕ) (v : View) → IsIdle v → v.state.modes ≡ None → Rests (after width_of v (Forget number ∷ [])) v.state.screen
+  rests_after_forgetting number v idle plain = record {
     screen_is = refl;
     idle = record { run = idle.run; stream = subst (λ stream. held_of stream ≡ nothing_held) (sym (append-nil v.stream)) idle.stream };
+    plain = plain;
   }
 
 -- ---- one history after another

@@ -1,9 +1,10 @@
 -- A new viewer that is fed the updates of an input shows the terminal's screen.
 use Rattle.std.proofs.Common.{◌≡◌, ℕ, ◌+◌, ◌<◌, ◌≤◌, ◌^◌, Bool, true, false, List, [], ◌∷◌, ◌++◌, length, refl, sym, ap, subst, ◌∙◌, arith}
-use Rattle.std.specs.Prelude.{◌==◌, if◌then◌else◌}
+use Rattle.std.specs.Prelude.{All, ◌==◌, None, if◌then◌else◌}
 use Rattle.std.proofs.lemmas.List.{length-replicate}
 use Rattle.cell_base.specs.Row.{space, plain_row}
-use Rattle.cell_base.specs.Screen.{Screen, height}
+use Rattle.cell_base.specs.Screen.{Screen, IsScreen, height}
+use Rattle.cell_base.specs.WholeRow.{IsWhole}
 use Rattle.cell_base.specs.ScreenSize.{IsScreenSize}
 use Rattle.screen_log.specs.LogSteps.{Sized}
 use Rattle.escape_framing.specs.Held.{hand_out, held_of, nothing_held}
@@ -16,11 +17,13 @@ use Rattle.terminal_table.specs.Alone.{IsIdle}
 use Rattle.terminal_table.specs.History.{Piece}
 use Rattle.terminal_table.specs.Logged.{logged}
 use Rattle.terminal_table.specs.Meaning.{View, new_view, after}
-use Rattle.terminal_table.specs.State.{State, IsState}
+use Rattle.terminal_table.specs.State.{State}
 use Rattle.terminal_table.specs.Turns.{IsView}
 use Rattle.terminal_table.proofs.EventLemmas.{after_is}
 use Rattle.terminal_table.proofs.JoinLemmas.{PiecesJoin, after_joins, cut_after, nothing_after}
 use Rattle.terminal_table.proofs.PrintLemmas.{AllCut}
+use Rattle.terminal_table.proofs.ModesLemmas.{plain_terminals_stay}
+use Rattle.terminal_table.proofs.RunLemmas.{no_text}
 use Rattle.terminal_table.proofs.StateLemmas.{new_is}
 use Rattle.terminal_viewers.specs.Shows.{Shows}
 use Rattle.terminal_viewers.specs.Update.{update_of}
@@ -28,13 +31,11 @@ use Rattle.terminal_viewers.specs.Updates.{Standing, in_chunks, looks, new_stand
 use Rattle.terminal_viewers.specs.Viewers.{CanRead, UpdatesAreShown, UpdatesLeaveIdle}
 use Rattle.terminal_viewers.proofs.DueLemmas.{steps_reach}
 use Rattle.terminal_viewers.proofs.ShowLemmas.{history_shows, shows_itself}
-use Rattle.terminal_viewers.proofs.SoundLemmas.{IsSoundScreen, new_sound, history_sound}
 
--- the standing of a terminal that writes updates: its state is lawful, its cells are sound, and its changes have encodings and numbers
+-- the standing of a terminal that writes updates: its state is lawful, and its changes have encodings and numbers
 record Stands (width_of : List ℕ → ℕ) (s : Standing) : Type 0 where
-  lawful : IsView s.view
+  lawful : IsView width_of s.view
   spelled : IsSpelledView s.view
-  sound : IsSoundScreen width_of s.view.state.screen
   encodings : HaveEncodings s.view.state.screen.width (height s.view.state.screen) s.log.log.entries
   counted : length s.log.log.entries ≤ s.log.log.number
 
@@ -57,7 +58,6 @@ module _ (cut : AllCut) (shown : UpdatesAreShown) (idles : UpdatesLeaveIdle) (wi
       record {
         lawful = after_is cut width_of s.view history h.lawful tt;
         spelled = history_spelled cut width_of s.view history h.lawful tt h.spelled;
-        sound = history_sound width_of narrow cut s.view history h.lawful tt h.spelled h.sound;
         encodings = history_keeps cut width_of s.view history s.log h.lawful tt h.spelled h.encodings;
         counted = (steps_reach 0 (logged width_of s.view history) s.log (record { counted = h.counted; reached = omega arith })).counted;
       }
@@ -70,11 +70,11 @@ module _ (cut : AllCut) (shown : UpdatesAreShown) (idles : UpdatesLeaveIdle) (wi
         narrow = narrow;
         ready = r.ready;
         idle = r.idle;
-        display = display_on_is (standing_after width_of s (looks (chunk ∷ []))).view.state later.lawful.lawful;
-        sound = later.sound;
+        display = display_on_is (standing_after width_of s (looks (chunk ∷ []))).view.state.screen later.lawful.lawful.lawful later.lawful.lawful.whole;
+        sound = later.lawful.lawful.sound;
         spelled = later.spelled.state.screen;
         encodings = later.encodings;
-        shows = history_shows width_of cut viewer.state.screen number s.view s.log (looks (chunk ∷ [])) h.lawful tt (display_on_is viewer.state r.ready.lawful) h.counted n p;
+        shows = history_shows width_of cut viewer.state.screen number s.view s.log (looks (chunk ∷ [])) h.lawful tt (display_on_is viewer.state.screen r.ready.lawful r.ready.whole) h.counted n p;
       }
 
   has_read : (viewer : View) (screen : Screen) (log : Sized) (number : ℕ) → CanRead width_of viewer screen log number → HasRead (after width_of viewer (Piece (update_of screen log number) ∷ [])) screen
@@ -86,10 +86,12 @@ module _ (cut : AllCut) (shown : UpdatesAreShown) (idles : UpdatesLeaveIdle) (wi
         screen_is = screen_is;
         reads = record {
           ready = record {
-            lawful = subst IsState (sym state_is) (record { lawful = can.display.lawful; whole = can.display.whole });
+            lawful = subst IsScreen (sym screen_is) can.display.lawful;
+            whole = subst (λ (x : Screen). All IsWhole x.rows) (sym screen_is) can.display.whole;
             width = subst (λ n. n < 2 ^ 32) (can.shows.wide ∙ ap (λ (x : Screen). x.width) (sym screen_is)) can.ready.width;
             height = subst (λ n. n < 2 ^ 32) (can.shows.tall ∙ ap (λ (x : Screen). height x) (sym screen_is)) can.ready.height;
             run = idle.run;
+            plain = plain_terminals_stay width_of viewer (Piece (update_of screen log number) ∷ []) can.ready.plain;
           };
           idle = idle;
         };
@@ -128,9 +130,8 @@ module _ (cut : AllCut) (shown : UpdatesAreShown) (idles : UpdatesLeaveIdle) (wi
 
   new_stands : (width height : ℕ) → 0 < width → 0 < height → Stands width_of (new_standing width height)
   new_stands width height w t = record {
-    lawful = record { lawful = new_is width height w t; plain = refl };
+    lawful = record { lawful = new_is width_of None width height narrow w t; plain = no_text };
     spelled = new_spelled width height;
-    sound = new_sound width_of narrow width height;
     encodings = tt;
     counted = omega arith;
   }
@@ -140,10 +141,12 @@ module _ (cut : AllCut) (shown : UpdatesAreShown) (idles : UpdatesLeaveIdle) (wi
   idle_stream = refl
 
   new_reads : (width height : ℕ) → IsScreenSize width height → Reads (new_view width height)
-  new_reads width height size = record {
-    ready = record { lawful = new_is width height size.columns.0 size.rows.0; width = size.columns.1; height = subst (λ n. n < 2 ^ 32) (sym (length-replicate height (plain_row width))) size.rows.1; run = refl };
-    idle = record { run = refl; stream = idle_stream };
-  }
+  new_reads width height size =
+      let new = new_is width_of None width height narrow size.columns.0 size.rows.0 in
+      record {
+        ready = record { lawful = new.lawful; whole = new.whole; width = size.columns.1; height = subst (λ n. n < 2 ^ 32) (sym (length-replicate height (plain_row width))) size.rows.1; run = refl; plain = refl };
+        idle = record { run = refl; stream = idle_stream };
+      }
 
   input_read : PiecesJoin → (width height every : ℕ) (input : List ℕ) → IsScreenSize width height
       → HasRead (after width_of (new_view width height) (Piece (updates width_of width height every input) ∷ [])) (updated width_of width height every input).state.screen

@@ -1,6 +1,6 @@
 -- A terminal that drops its replies, and forgets changes before a number, answers from that number on as one that keeps all.
 use Rattle.std.proofs.Common.{◌≡◌, ◌≢◌, ◌⊎◌, inl, inr, ℕ, suc, ◌+◌, ◌-◌, ◌≤◌, ◌<◌, Bool, true, false, List, [], ◌∷◌, ◌++◌, length, drop, map, fold, refl, sym, ap, subst, ◌∙◌, arith, append-nil}
-use Rattle.std.specs.Prelude.{◌==◌, ◌||◌, nat_lt, Option, Some, None, if◌then◌else◌}
+use Rattle.std.specs.Prelude.{◌==◌, ◌||◌, nat_lt, Option, Some, None, option_map, if◌then◌else◌}
 use Rattle.std.specs.Option.{option_map}
 use Rattle.std.proofs.lemmas.Bool.Decides.{eqb_tells, leb_tells, nat_tests}
 use Rattle.cell_base.specs.Screen.{height}
@@ -13,13 +13,14 @@ use Rattle.escape_stream.specs.StreamAction.{StreamAction, is_print}
 use Rattle.escape_stream.specs.StreamActions.{newly_decided_actions}
 use Rattle.screen_effects.specs.Resize.{resized_screen}
 use Rattle.terminal_render.specs.Lists.{all_rendered}
-use Rattle.terminal_table.specs.Changes.{changes_of}
-use Rattle.terminal_table.specs.Functions.{ControlFunction, function_of}
 use Rattle.terminal_table.specs.History.{History, Piece, Look, Resize, Forget, pieces, Event, Act, Looked, Resized, Forgot, events}
 use Rattle.terminal_table.specs.Logged.{run_logged, event_logged, events_logged, logged, log_after}
 use Rattle.terminal_table.specs.Meaning.{View, settled, event_done, after}
+use Rattle.terminal_table.specs.Modes.{resized_modes}
+use Rattle.terminal_table.specs.Request.{Request, Table, Xterm, Sets}
+use Rattle.terminal_table.specs.Requests.{acted, acted_changes, request_changes, request_done, request_of}
 use Rattle.terminal_table.specs.State.{State}
-use Rattle.terminal_table.specs.Steps.{run_step, step_of}
+use Rattle.terminal_table.specs.Steps.{run_step}
 use Rattle.terminal_viewers.specs.Update.{bytes_of, due_or, painted_anew, update_of}
 use Rattle.terminal_viewers.specs.Updates.{Standing, standing_after}
 use Rattle.terminal_viewers.specs.Viewers.{AnswersAs, AreAlike, AreFed, SameIsDue}
@@ -32,10 +33,10 @@ abbrev pub with_replies : List ℕ → View → View
 with_replies replies v = record v { state = record v.state { replies = replies } }
 
 pub alike_itself : (v : View) → AreAlike v v
-alike_itself v = record { screen = refl; saved = refl; stream = refl; held = refl }
+alike_itself v = record { screen = refl; saved = refl; modes = refl; stream = refl; held = refl }
 
 same_as : (a b : View) → AreAlike a b → a ≡ with_replies a.state.replies b
-same_as a b h = λ i. record { state = record { screen = h.screen i; saved = h.saved i; replies = a.state.replies }; stream = h.stream i; held = h.held i }
+same_as a b h = λ i. record { state = record { screen = h.screen i; saved = h.saved i; replies = a.state.replies; modes = h.modes i }; stream = h.stream i; held = h.held i }
 
 module _ (width_of : List ℕ → ℕ) where
   settled_with : (replies : List ℕ) (v : View) → settled width_of (with_replies replies v) ≡ with_replies replies (settled width_of v)
@@ -46,34 +47,39 @@ module _ (width_of : List ℕ → ℕ) where
       by_test true = refl
       by_test false = refl
 
-  step_with : (request : Option ControlFunction) (replies : List ℕ) (v : View) → AreAlike (record (with_replies replies v) { state = step_of request (with_replies replies v).state }) (record v { state = step_of request v.state })
-  step_with None replies v = record { screen = refl; saved = refl; stream = refl; held = refl }
-  step_with (Some function) replies v = record { screen = refl; saved = refl; stream = refl; held = refl }
+  step_with : (request : Option Request) (replies : List ℕ) (v : View) → AreAlike (record (with_replies replies v) { state = request_done request (with_replies replies v).state }) (record v { state = request_done request v.state })
+  step_with None replies v = record { screen = refl; saved = refl; modes = refl; stream = refl; held = refl }
+  step_with (Some (Table function)) replies v = record { screen = refl; saved = refl; modes = refl; stream = refl; held = refl }
+  step_with (Some (Xterm function)) replies v = record { screen = refl; saved = refl; modes = refl; stream = refl; held = refl }
+  step_with (Some (Sets modes function)) replies v = record { screen = refl; saved = refl; modes = refl; stream = refl; held = refl }
 
   done_with : (replies : List ℕ) (v : View) (event : Event) → AreAlike (event_done width_of (with_replies replies v) event) (event_done width_of v event)
   done_with replies v (Act action) = by_test (is_print action) refl
     where
       by_test : (b : Bool) → is_print action ≡ b → AreAlike (event_done width_of (with_replies replies v) (Act action)) (event_done width_of v (Act action))
-      by_test true e = rw e (record { screen = refl; saved = refl; stream = refl; held = refl })
-      by_test false e = rw e (subst (λ (x : View). AreAlike (record x { state = step_of (function_of action) x.state }) (record (settled width_of v) { state = step_of (function_of action) (settled width_of v).state }))
-          (sym (settled_with replies v)) (step_with (function_of action) replies (settled width_of v)))
-  done_with replies v Looked = subst (λ (x : View). AreAlike x (settled width_of v)) (sym (settled_with replies v)) (record { screen = refl; saved = refl; stream = refl; held = refl })
+      by_test true e = rw e (record { screen = refl; saved = refl; modes = refl; stream = refl; held = refl })
+      by_test false e = rw e (subst (λ (x : View). AreAlike (record x { state = acted action x.state }) (record (settled width_of v) { state = acted action (settled width_of v).state }))
+          (sym (settled_with replies v)) (step_with (request_of (settled width_of v).state.modes (settled width_of v).state.screen action) replies (settled width_of v)))
+  done_with replies v Looked = subst (λ (x : View). AreAlike x (settled width_of v)) (sym (settled_with replies v)) (record { screen = refl; saved = refl; modes = refl; stream = refl; held = refl })
   done_with replies v (Resized width tall) = let s = settled_with replies v in record {
     screen = ap (λ (x : View). resized_screen width tall x.state.screen) s;
     saved = ap (λ (x : View). x.state.saved) s;
+    modes = ap (λ (x : View). option_map resized_modes x.state.modes) s;
     stream = refl;
     held = refl;
   }
-  done_with replies v (Forgot number) = record { screen = refl; saved = refl; stream = refl; held = refl }
+  done_with replies v (Forgot number) = record { screen = refl; saved = refl; modes = refl; stream = refl; held = refl }
 
-  changes_with : (request : Option ControlFunction) (replies : List ℕ) (state : State) → changes_of request (record state { replies = replies }) ≡ changes_of request state
+  changes_with : (request : Option Request) (replies : List ℕ) (state : State) → request_changes request (record state { replies = replies }) ≡ request_changes request state
   changes_with None replies state = refl
-  changes_with (Some function) replies state = refl
+  changes_with (Some (Table function)) replies state = refl
+  changes_with (Some (Xterm function)) replies state = refl
+  changes_with (Some (Sets modes function)) replies state = refl
 
   logged_with : (replies : List ℕ) (v : View) (event : Event) → event_logged width_of (with_replies replies v) event ≡ event_logged width_of v event
   logged_with replies v (Act action) =
       ap (λ (cs : List ChangeValue). if is_print action then [] else run_logged v ++ map Logged cs)
-      (ap (λ (x : View). changes_of (function_of action) x.state) (settled_with replies v) ∙ changes_with (function_of action) replies (settled width_of v).state)
+      (ap (λ (x : View). acted_changes action x.state) (settled_with replies v) ∙ changes_with (request_of (settled width_of v).state.modes (settled width_of v).state.screen action) replies (settled width_of v).state)
   logged_with replies v Looked = refl
   logged_with replies v (Resized width tall) = refl
   logged_with replies v (Forgot number) = refl
@@ -99,6 +105,7 @@ module _ (width_of : List ℕ → ℕ) where
       record {
         screen = ap (λ s. (fold (event_done width_of) a (events s history)).state.screen) h.stream ∙ all.screen;
         saved = ap (λ s. (fold (event_done width_of) a (events s history)).state.saved) h.stream ∙ all.saved;
+        modes = ap (λ s. (fold (event_done width_of) a (events s history)).state.modes) h.stream ∙ all.modes;
         stream = ap (λ s. s ++ pieces history) h.stream;
         held = ap (λ s. (fold (event_done width_of) a (events s history)).held) h.stream ∙ all.held;
       }
@@ -204,12 +211,12 @@ answers_after width_of number kept whole history f h = record {
 
 -- they answer alike after the replies of one are taken
 pub answers_with_replies : (number : ℕ) (kept whole : Standing) (replies : List ℕ) → AnswersAs number kept whole → AnswersAs number (record kept { view = with_replies replies kept.view }) whole
-answers_with_replies number kept whole replies h = record { views = record { screen = h.views.screen; saved = h.views.saved; stream = h.views.stream; held = h.views.held }; logs = h.logs }
+answers_with_replies number kept whole replies h = record { views = record { screen = h.views.screen; saved = h.views.saved; modes = h.views.modes; stream = h.views.stream; held = h.views.held }; logs = h.logs }
 
 -- they answer alike, from a later number on, after one forgets the changes before that number
 pub answers_after_forget : (width_of : List ℕ → ℕ) (number later : ℕ) (kept whole : Standing) → number ≤ later → AnswersAs number kept whole → AnswersAs later (standing_after width_of kept (Forget later ∷ [])) whole
 answers_after_forget width_of number later kept whole l h = record {
-  views = record { screen = h.views.screen; saved = h.views.saved; stream = append-nil kept.view.stream ∙ h.views.stream; held = h.views.held };
+  views = record { screen = h.views.screen; saved = h.views.saved; modes = h.views.modes; stream = append-nil kept.view.stream ∙ h.views.stream; held = h.views.held };
   logs = forgotten_same number later kept.log whole.log l h.logs;
 }
 

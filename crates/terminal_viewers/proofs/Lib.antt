@@ -1,11 +1,9 @@
-pub mod SoundLemmas
 pub mod DueLemmas
 pub mod ShowLemmas
 pub mod ViewerLemmas
 pub mod InputLemmas
 pub mod ChunkLemmas
 pub mod KeptLemmas
-pub mod PositionLemmas
 pub mod PaintLemmas
 pub mod SpellLemmas
 pub mod CountLemmas

@@ -28,8 +28,9 @@ use Rattle.screen_repaint.specs.Repaint.{are_some, cursor_placed, cursor_shown, 
 use Rattle.screen_repaint.specs.Shown.{shown_on}
 use Rattle.screen_repaint.proofs.WholeLemmas.{titled_is_shown}
 use Rattle.screen_effects.specs.WrittenCells.{IsSoundDisplay, IsSoundRow}
-use Rattle.terminal_viewers.specs.Update.{display_on, last_cell, painted_anew, as_encoded, written_again}
-use Rattle.terminal_viewers.proofs.PositionLemmas.{row_is, written_is}
+use Rattle.terminal_table.specs.Led.{last_cell, written_again}
+use Rattle.terminal_table.proofs.PositionLemmas.{row_is, written_is}
+use Rattle.terminal_viewers.specs.Update.{display_on, painted_anew, as_encoded}
 
 -- ---- the changes of rows
 

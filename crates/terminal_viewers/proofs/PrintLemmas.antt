@@ -31,10 +31,11 @@ use Rattle.screen_effects.specs.Strokes.{Cluster, Stroke, TextPart, strokes, tex
 use Rattle.screen_effects.proofs.EffectLaws.{effect_is}
 use Rattle.screen_difference.specs.Prints.{change_strokes, changes_print, strokes_print, strokes_scroll, text_of, texts_scroll}
 use Rattle.screen_effects.specs.WrittenCells.{IsSoundDisplay}
-use Rattle.terminal_viewers.specs.Patch.{patch_changes, position_and_pen, position_prints, print_again}
-use Rattle.terminal_viewers.proofs.ActionLemmas.{AreQuiet, IsQuiet, Sends, both_send, none_sends, quiet_append, quiet_sends, reset_quiet, run_sends, settings_quiet}
+use Rattle.terminal_table.specs.Led.{last_cell, position_and_pen, written_again}
+use Rattle.terminal_viewers.specs.Patch.{patch_changes, position_prints, print_again}
+use Rattle.terminal_viewers.proofs.ActionLemmas.{AreQuiet, IsBare, IsQuiet, Sends, both_send, none_sends, quiet_append, quiet_sends, reset_quiet, run_sends, settings_quiet}
 use Rattle.terminal_viewers.proofs.LeadLemmas as lead
-use Rattle.terminal_viewers.proofs.LeadLemmas.{DifferencesKeepRest, RegionsHavePositions, ScreensAreShown}
+use Rattle.terminal_table.proofs.LedLemmas.{DifferencesKeepRest, RegionsHavePositions, ScreensAreShown}
 use Rattle.terminal_viewers.proofs.PatchSpellLemmas.{each_of_patch}
 use Rattle.terminal_render.specs.Effects.{IsReady, actions_done, with_change}
 use Rattle.terminal_render.specs.Links.{is_plain_text}
@@ -51,8 +52,8 @@ use Rattle.terminal_table.specs.Functions.{function_of}
 use Rattle.terminal_table.specs.Meaning.{View}
 use Rattle.terminal_table.specs.Turns.{IsPrinted}
 use Rattle.terminal_table.proofs.RunLemmas.{one_part, printed_strokes}
-use Rattle.terminal_viewers.specs.Update.{display_on, last_cell, written_again}
-use Rattle.terminal_viewers.proofs.PositionLemmas.{LastCell, cell_columns, last_cell_is, none_due, one_text_is}
+use Rattle.terminal_viewers.specs.Update.{display_on}
+use Rattle.terminal_table.proofs.PositionLemmas.{LastCell, cell_columns, last_cell_is, none_due, one_text_is}
 
 -- ---- the kinds of changes of a patch
 
@@ -120,7 +121,7 @@ of_some P found x e h = subst (λ o. IfSome o P) e h
 module _ (f : List ℕ → ℕ) where
   -- a text without controls is printed as it is
   abbrev SendsText : List ℕ → List StreamAction → Type 0
-  SendsText text actions = (v : View) → v.held ≡ [] → IsUtf8 text → strokes_scroll f v.state.screen (strokes text) ≡ false → Sends f v actions (strokes_print f v.state.screen (strokes text))
+  SendsText text actions = (v : View) → IsBare v → IsUtf8 text → strokes_scroll f v.state.screen (strokes text) ≡ false → Sends f v actions (strokes_print f v.state.screen (strokes text))
 
   whole_sends : (text : List ℕ) → IsPrinted text → SendsText text (flat_map part_actions (text_parts text))
   whole_sends [] h = λ v none u still. none_sends f v
@@ -139,7 +140,7 @@ module _ (f : List ℕ → ℕ) where
       choose false = whole_sends text h
 
   -- each change of a patch prints its text
-  change_sends : (v : View) (change : ChangeValue) (width tall : ℕ) (actions : List StreamAction) → v.held ≡ [] → IsOfPatch change → strokes_scroll f v.state.screen (change_strokes change) ≡ false → rendering change width tall ≡ Some actions
+  change_sends : (v : View) (change : ChangeValue) (width tall : ℕ) (actions : List StreamAction) → IsBare v → IsOfPatch change → strokes_scroll f v.state.screen (change_strokes change) ≡ false → rendering change width tall ≡ Some actions
       → Sends f v actions (strokes_print f v.state.screen (change_strokes change))
   change_sends v (Text text) width tall actions none p still e =
       of_some (SendsText text) (text_rendering text) actions e (text_sends text p.0) v none p.1 still
@@ -165,7 +166,7 @@ module _ (f : List ℕ → ℕ) where
       let size = effect_size f d change h in
       let width : (effect f d change).screen.width ≡ v.state.screen.width = size.width ∙ ap (λ (s : Screen). s.width) same in
       let tall : height (effect f d change).screen ≡ height v.state.screen = size.tall ∙ ap (λ (s : Screen). height s) same in
-      record { lawful = record { lawful = lawful.lawful; whole = lawful.whole }; width = subst (λ n. n < 2 ^ 32) (sym width) ready.width; height = subst (λ n. n < 2 ^ 32) (sym tall) ready.height; run = ready.run }
+      record { lawful = lawful.lawful; whole = lawful.whole; width = subst (λ n. n < 2 ^ 32) (sym width) ready.width; height = subst (λ n. n < 2 ^ 32) (sym tall) ready.height; run = ready.run; plain = ready.plain }
 
   -- the changes of a patch, in turn, print their texts
   pub changes_send : (v : View) (d : Display) (changes : List ChangeValue) (actions : List StreamAction) → IsReady v → IsDisplay d → d.screen ≡ v.state.screen → AreOfPatch changes → texts_scroll f d changes ≡ false
@@ -181,7 +182,7 @@ module _ (f : List ℕ → ℕ) where
       let rest : all_rendered changes (effect f d change).screen.width (height (effect f d change).screen) ≡ Some found.remaining = (λ i. all_rendered changes (width i) (tall i)) ∙ found.rest_is in
       let calm : strokes_scroll f v.state.screen (change_strokes change) ≡ false = ap (λ s. strokes_scroll f s (change_strokes change)) (sym same) ∙ no_first here later still in
       let own : Sends f v found.first (strokes_print f d.screen (change_strokes change)) =
-      subst (λ s. Sends f v found.first (strokes_print f s (change_strokes change))) (sym same) (change_sends v change v.state.screen.width (height v.state.screen) found.first ready.run p.0 calm found.found_is) in
+      subst (λ s. Sends f v found.first (strokes_print f s (change_strokes change))) (sym same) (change_sends v change v.state.screen.width (height v.state.screen) found.first (record { run = ready.run; plain = ready.plain }) p.0 calm found.found_is) in
       let remaining : Sends f (actions_done f v found.first) found.remaining (changes_print f (effect f d change) changes) =
       subst (λ w. Sends f w found.remaining (changes_print f (effect f d change) changes)) (sym (have_the_effect f v d change found.first ready same found.found_is))
       (changes_send (with_change f v d change) (effect f d change) changes found.remaining (ready_after v d change ready h same) (effect_is f d change h) refl p.1 (no_second here later still) rest) in

@@ -17,7 +17,7 @@ use Rattle.screen_effects.specs.WrittenCells.{IsSoundDisplay}
 use Rattle.terminal_viewers.specs.Patch.{patch_changes}
 use Rattle.terminal_viewers.specs.Reading.{CanReadPatch, PatchesAreShown, PatchesArePlain, PatchesLeaveIdle, PatchesPrintFreshCells, patch_for}
 use Rattle.terminal_viewers.proofs.ActionLemmas.{Sends, events_append, plain_append, read_prints}
-use Rattle.terminal_viewers.proofs.LeadLemmas.{DifferencesKeepRest, RegionsHavePositions, ScreensAreShown}
+use Rattle.terminal_table.proofs.LedLemmas.{DifferencesKeepRest, RegionsHavePositions, ScreensAreShown}
 use Rattle.terminal_viewers.proofs.PrintLemmas.{DifferencesAreStill, DifferencesPrintCells, PrintsJoin, StillJoin, changes_send, patch_is, patch_prints, patch_still}
 use Rattle.terminal_table.specs.Prints.{ArePlainEvents, events_print, prints}
 use Rattle.terminal_render.specs.Effects.{actions_done}
@@ -44,7 +44,7 @@ module _ (leads : PatchesLead) (spells : PatchesHaveEncodings) (writes : Spelled
   can_follow : (width_of : List ℕ → ℕ) (viewer : View) (screen : Screen) → CanReadPatch width_of viewer screen → CanFollow width_of viewer screen (patch_changes viewer.state.screen screen)
   can_follow width_of viewer screen can =
       let old : Screen = viewer.state.screen in
-      let shown : IsDisplay (display_on old) = display_on_is viewer.state can.ready.lawful in
+      let shown : IsDisplay (display_on old) = display_on_is old can.ready.lawful can.ready.whole in
       record {
         ready = can.ready;
         idle = can.idle;
@@ -75,7 +75,7 @@ module _ (leads : PatchesLead) (spells : PatchesHaveEncodings) (writes : Spelled
       changes = patch_changes old screen
 
       shown : IsDisplay (display_on old)
-      shown = display_on_is viewer.state can.ready.lawful
+      shown = display_on_is old can.ready.lawful can.ready.whole
 
       s : Encoded viewer screen changes
       s = encoded_changes writes f viewer screen changes (can_follow f viewer screen can)
@@ -89,7 +89,7 @@ module _ (leads : PatchesLead) (spells : PatchesHaveEncodings) (writes : Spelled
           (patch_still keeps positions shows print calm join still_join f old screen can.narrow shown can.display can.sound can.wide can.tall) s.rendered
 
       read_back : (events_print f viewer (map Act (read_form s.actions)) ≡ texts) × ArePlainEvents f viewer (map Act (read_form s.actions))
-      read_back = read_prints f s.actions viewer texts encode
+      read_back = read_prints f s.actions viewer texts can.ready.plain encode
 
       decided : newly_decided_actions viewer.stream (patch_for viewer screen) ≡ read_form s.actions
       decided = ap (newly_decided_actions viewer.stream) s.bytes ∙ reads viewer.stream s.actions (whole viewer.stream can.idle.stream) s.writable
@@ -125,7 +125,7 @@ module _ (leads : PatchesLead) (spells : PatchesHaveEncodings) (writes : Spelled
     pub patch_prints_fresh : PatchesPrintFreshCells
     patch_prints_fresh f viewer screen can =
         fresh_printed f viewer screen can
-        ∙ patch_prints keeps positions shows print calm join still_join f viewer.state.screen screen can.narrow (display_on_is viewer.state can.ready.lawful) can.display can.sound can.wide can.tall
+        ∙ patch_prints keeps positions shows print calm join still_join f viewer.state.screen screen can.narrow (display_on_is viewer.state.screen can.ready.lawful can.ready.whole) can.display can.sound can.wide can.tall
 
     pub patch_is_plain : PatchesArePlain
     patch_is_plain f viewer screen can = plain_read f viewer screen can

@@ -1,7 +1,7 @@
 -- The changes of a repaint have an encoding.
 use Rattle.std.proofs.Common.{◌≡◌, ℕ, ◌+◌, ◌<◌, ◌≤◌, ◌⊎◌, inl, inr, Bool, true, false, List, [], ◌∷◌, ◌++◌, map, fold, refl, sym, subst, arith}
 use Rattle.std.specs.Prelude.{All, ⊤, not, ◌==◌, ◌&&◌, ◌||◌, pos, Option, Some, None, if◌then◌else◌}
-use Rattle.std.specs.List.{AllByRecursion, list_any, concat}
+use Rattle.std.specs.List.{list_any}
 use Rattle.std.proofs.lemmas.Bool.{cond_both}
 use Rattle.std.proofs.lemmas.List.Elements.{All-head, All-tail}
 use Rattle.cell_base.specs.declared.attributes.CursorShape.{CursorShape as Shape}
@@ -15,22 +15,20 @@ use Rattle.cell_base.specs.Row.{Row, Narrow, LeftHalf, RightHalf}
 use Rattle.cell_base.specs.SameAttributes.{same_attributes}
 use Rattle.cell_base.specs.Screen.{Screen, IsScreen, height}
 use Rattle.screen_change.specs.CellChanges.{attributes_due, runs_written, cells_written, clear_due}
-use Rattle.screen_change.specs.CellRuns.{CellRun, before_runs, cell_runs, is_blank_of, background_at_end, less_blanks}
+use Rattle.screen_change.specs.CellRuns.{CellRun, cell_runs, is_blank_of, background_at_end, less_blanks}
 use Rattle.screen_change.specs.ChangeValue.{ChangeValue, AllAttributes, Text, ClearScreen, ClearToEndOfLine, ClearToEndOfScreen, CursorPosition, CursorVisibility, Title}
-use Rattle.screen_change.specs.Texts.{stay_independent, texts}
+use Rattle.screen_change.specs.Texts.{texts}
 use Rattle.cell_base.specs.UpToLast.{up_to_last}
 use Rattle.cell_edits.specs.VisibleCells.{visible_from, contents}
 use Rattle.escape_framing.proofs.Existence.Utf8Lemmas.{order}
 use Rattle.screen_effects.specs.Display.{Display, IsDisplay}
 use Rattle.screen_repaint.specs.Repaint.{pen_left, row_cells, go_with_blanks, end_cleared, row_painted, in_next_row, rows_painted, are_some, cursor_placed, cursor_shown, title_due, repaint}
-use Rattle.terminal_render.specs.Spelling.{IsSpelledColor, IsSpelledPen, IsSpelledRun, IsSpelledRow, IsSpelledScreen, HasEncoding, HaveEncodings, IsLeftOut, HaveOtherEncodings}
-use Rattle.terminal_render.proofs.TextLemmas.{AreSpelledRuns, run_append, run_nil}
+use Rattle.terminal_render.specs.Spelling.{IsSpelledColor, IsSpelledPen, IsSpelledRow, IsSpelledScreen, HasEncoding, HaveEncodings, IsLeftOut, HaveOtherEncodings}
+use Rattle.terminal_render.proofs.TextLemmas.{AreSpelledRuns}
+use Rattle.terminal_render.proofs.CellLemmas.{AreSpelledCellRuns, AreSpelledCells, runs_spelled, texts_spelled}
 use Rattle.terminal_render.proofs.ChangeLemmas.{is_encoded, encodings_append, coordinate_some}
 
 -- ---- cells
-
-abbrev pub AreSpelledCells : List CellContent → Type 0
-AreSpelledCells = AllByRecursion (λ cell. IsSpelledRun cell.text × IsSpelledPen cell.attributes)
 
 visible_spelled : (at : ℕ) (row : Row) → IsSpelledRow row → AreSpelledCells (contents (visible_from at row))
 visible_spelled at [] p = tt
@@ -59,28 +57,6 @@ background_from start (cell ∷ cells) h p =
 
 background_spelled : (cells : List CellContent) → AreSpelledCells cells → IsSpelledOption (background_at_end cells)
 background_spelled cells p = background_from None cells tt p
-
--- ---- runs
-
-concat_spelled : (ts : List (List ℕ)) → AreSpelledRuns ts → IsSpelledRun (concat ts)
-concat_spelled [] p = run_nil
-concat_spelled (t ∷ ts) p = run_append t (concat ts) p.0 (concat_spelled ts p.1)
-
-pub texts_spelled : (cells : List (List ℕ)) → AreSpelledRuns cells → AreSpelledRuns (texts cells)
-unfolding texts
-texts_spelled [] p = tt
-texts_spelled (cell ∷ cells) p = cond_both (stay_independent (cell ∷ cells)) _ _ AreSpelledRuns (λ e. (concat_spelled (cell ∷ cells) p, tt)) (λ e. p)
-
-abbrev pub AreSpelledCellRuns : List CellRun → Type 0
-AreSpelledCellRuns = AllByRecursion (λ run. IsSpelledPen run.attributes × AreSpelledRuns run.cells)
-
-before_spelled : (cell : CellContent) (runs : List CellRun) → IsSpelledRun cell.text → IsSpelledPen cell.attributes → AreSpelledCellRuns runs → AreSpelledCellRuns (before_runs cell runs)
-before_spelled cell [] t a p = ((a, (t, tt)), tt)
-before_spelled cell (run ∷ runs) t a p = cond_both (same_attributes cell.attributes run.attributes) _ _ AreSpelledCellRuns (λ e. ((p.0.0, (t, p.0.1)), p.1)) (λ e. ((a, (t, tt)), p))
-
-pub runs_spelled : (cells : List CellContent) → AreSpelledCells cells → AreSpelledCellRuns (cell_runs cells)
-runs_spelled [] p = tt
-runs_spelled (cell ∷ cells) p = before_spelled cell (cell_runs cells) p.0.0 p.0.1 (runs_spelled cells p.1)
 
 -- ---- a repaint
 

@@ -10,7 +10,8 @@ use Rattle.screen_difference.specs.FreshCells.{screen_fresh}
 use Rattle.screen_effects.specs.Display.{Display, IsDisplay}
 use Rattle.screen_effects.specs.Effect.{is_visible}
 use Rattle.terminal_viewers.proofs.PatchSpellLemmas.{patch_has}
-use Rattle.terminal_viewers.specs.Patch.{patch_changes, patch_of, position_and_pen}
+use Rattle.terminal_table.specs.Led.{position_and_pen}
+use Rattle.terminal_viewers.specs.Patch.{patch_changes, patch_of}
 use Rattle.terminal_render.specs.Spelling.{HasEncoding, HaveEncodings, IsSpelledScreen}
 use Rattle.terminal_table.specs.Changes.{visibility}
 use Rattle.terminal_viewers.specs.Encoding.{encoded_text, encoded_texts}

@@ -1,6 +1,6 @@
 -- Sessions: each turn keeps a chain, so that each answer is shown, and in a round each viewer shows the terminal.
 use Rattle.std.proofs.Common.{◌≡◌, ℕ, zero, suc, ◌+◌, ◌<◌, ◌^◌, List, [], ◌∷◌, ◌++◌, length, take, replicate, refl, sym, ap, subst, ◌∙◌, arith}
-use Rattle.std.specs.Prelude.{All}
+use Rattle.std.specs.Prelude.{All, None}
 use Rattle.std.proofs.lemmas.List.{length-replicate}
 use Rattle.std.proofs.lemmas.List.Elements.{All-head, All-nil, All-tail}
 use Rattle.std.proofs.lemmas.List.Sums.{fold-append}
@@ -15,24 +15,23 @@ use Rattle.terminal_viewers.proofs.ChainLemmas.{IsChain, answering_shows, forget
 use Rattle.terminal_viewers.proofs.HistoryLemmas.{nothing_after, standings_join}
 use Rattle.terminal_render.proofs.ViewLemmas.{new_spelled}
 use Rattle.terminal_table.proofs.PrintLemmas.{AllCut}
+use Rattle.terminal_table.proofs.RunLemmas.{no_text}
 use Rattle.terminal_table.proofs.StateLemmas.{new_is}
 use Rattle.terminal_table.specs.History.{Forget, History, Look}
 use Rattle.terminal_viewers.specs.Updates.{Standing, new_standing, standing_after}
 use Rattle.terminal_viewers.specs.Viewers.{UpdatesAreShown, UpdatesLeaveIdle}
-use Rattle.terminal_viewers.proofs.SoundLemmas.{new_sound}
 
 -- ---- new viewers
 
-module _ (width_of : List ℕ → ℕ) (narrow : width_of space ≡ 1) where
+module _ (width_of : List ℕ → ℕ) where
   new_height : (width tall : ℕ) → height (new_standing width tall).view.state.screen ≡ tall
   new_height width tall = length-replicate tall (plain_row width)
 
-  new_can_answer : (width tall : ℕ) → 0 < width → width < 2 ^ 32 → 0 < tall → tall < 2 ^ 32 → CanAnswer width_of (new_standing width tall)
-  new_can_answer width tall w wide t small = record {
-    lawful = record { lawful = new_is width tall w t; plain = refl };
+  new_can_answer : (width tall : ℕ) → width_of space ≡ 1 → 0 < width → width < 2 ^ 32 → 0 < tall → tall < 2 ^ 32 → CanAnswer width_of (new_standing width tall)
+  new_can_answer width tall narrow w wide t small = record {
+    lawful = record { lawful = new_is width_of None width tall narrow w t; plain = no_text };
     wide = wide;
     tall = subst (λ n. n < 2 ^ 32) (sym (new_height width tall)) small;
-    sound = new_sound width_of narrow width tall;
     spelled = new_spelled width tall;
     encodings = tt;
     counted = omega arith;
@@ -50,6 +49,7 @@ module _ (width_of : List ℕ → ℕ) (narrow : width_of space ≡ 1) where
     can,
     record {
       idle = record { run = refl; stream = nothing_unfinished };
+      plain = refl;
       shows = record { wide = sym w; tall = new_height width tall ∙ sym t; leads = tt };
       reached = omega arith;
       steps = tt;
@@ -61,16 +61,16 @@ module _ (width_of : List ℕ → ℕ) (narrow : width_of space ≡ 1) where
   new_chain_is terminal count can =
       let screen = terminal.view.state.screen in
       let row = can.lawful.lawful.lawful.row_in in
-      new_viewers count terminal screen.width (height screen) can refl refl (new_can_answer screen.width (height screen) can.lawful.lawful.lawful.wide_enough can.wide (omega arith) can.tall)
+      new_viewers count terminal screen.width (height screen) can refl refl (new_can_answer screen.width (height screen) can.lawful.lawful.narrow can.lawful.lawful.lawful.wide_enough can.wide (omega arith) can.tall)
 
 -- ---- turns
 
 module _ (cut : AllCut) (shown : UpdatesAreShown) (idles : UpdatesLeaveIdle) (patched : PatchesAreShown) (patch_idles : PatchesLeaveIdle) where
-  module _ (width_of : List ℕ → ℕ) (narrow : width_of space ≡ 1) where
+  module _ (width_of : List ℕ → ℕ) where
     turn_keeps : (chain : Chain) (turn : Turn) → IsTurn turn → IsChain width_of chain.terminal chain.viewers → IsChain width_of (turned width_of chain turn).terminal (turned width_of chain turn).viewers
-    turn_keeps chain (Goes step) h c = goes_on cut width_of narrow (step ∷ []) chain.terminal chain.viewers (h, tt) c
-    turn_keeps chain (Forgets at number) h c = forgetting_keeps cut width_of narrow number at chain.terminal chain.viewers c
-    turn_keeps chain (Answers at answer) h c = (answering_shows cut width_of narrow shown idles patched patch_idles answer at chain.terminal chain.viewers c).stays
+    turn_keeps chain (Goes step) h c = goes_on cut width_of (step ∷ []) chain.terminal chain.viewers (h, tt) c
+    turn_keeps chain (Forgets at number) h c = forgetting_keeps cut width_of number at chain.terminal chain.viewers c
+    turn_keeps chain (Answers at answer) h c = (answering_shows cut width_of shown idles patched patch_idles answer at chain.terminal chain.viewers c).stays
 
     session_keeps : (turns : List Turn) (chain : Chain) → All IsTurn turns → IsChain width_of chain.terminal chain.viewers → IsChain width_of (session width_of chain turns).terminal (session width_of chain turns).viewers
     session_keeps [] chain h c = c
@@ -85,28 +85,28 @@ module _ (cut : AllCut) (shown : UpdatesAreShown) (idles : UpdatesLeaveIdle) (pa
     round_shows (answer ∷ answers) at chain c h =
         let next = turned width_of chain (Answers at answer) in
         let last = session width_of next (round (at + 1) answers) in
-        let shows = subst (λ n. AllShow next.terminal.view.state.screen (take n next.viewers)) (sym (add-one at)) (next_shows cut width_of narrow shown idles patched patch_idles answer at chain.terminal chain.viewers c h) in
+        let shows = subst (λ n. AllShow next.terminal.view.state.screen (take n next.viewers)) (sym (add-one at)) (next_shows cut width_of shown idles patched patch_idles answer at chain.terminal chain.viewers c h) in
         let same : (at + 1) + length answers ≡ at + suc (length answers) = omega arith in
         subst (λ n. AllShow last.terminal.view.state.screen (take n last.viewers)) same (round_shows answers (at + 1) next (turn_keeps chain (Answers at answer) tt c) shows)
 
   -- ---- sessions
 
   pub answers_are_shown : AnswersAreShown
-  answers_are_shown width_of terminal count turns at answer narrow can h =
+  answers_are_shown width_of terminal count turns at answer can h =
       let chain = session width_of (new_chain terminal count) turns in
-      let stays = session_keeps width_of narrow turns (new_chain terminal count) h (new_chain_is width_of narrow terminal count can) in
+      let stays = session_keeps width_of turns (new_chain terminal count) h (new_chain_is width_of terminal count can) in
       subst (λ (c : Chain). IsShown at c.terminal c.viewers) (sym (fold-append (turned width_of) (new_chain terminal count) turns (Answers at answer ∷ [])))
-      (answering_shows cut width_of narrow shown idles patched patch_idles answer at chain.terminal chain.viewers stays).shown
+      (answering_shows cut width_of shown idles patched patch_idles answer at chain.terminal chain.viewers stays).shown
 
   pub rounds_are_shown : RoundsAreShown
-  rounds_are_shown width_of terminal count turns answers narrow can h =
+  rounds_are_shown width_of terminal count turns answers can h =
       let chain = session width_of (new_chain terminal count) turns in
-      let stays = session_keeps width_of narrow turns (new_chain terminal count) h (new_chain_is width_of narrow terminal count can) in
+      let stays = session_keeps width_of turns (new_chain terminal count) h (new_chain_is width_of terminal count can) in
       let last = session width_of chain (round 0 answers) in
       let same : 0 + length answers ≡ length answers = omega arith in
       subst (λ (c : Chain). AllShow c.terminal.view.state.screen (take (length answers) c.viewers)) (sym (fold-append (turned width_of) (new_chain terminal count) turns (round 0 answers)))
       (subst (λ n. AllShow last.terminal.view.state.screen (take n last.viewers)) same
-      (round_shows width_of narrow answers 0 chain stays (All-nil (λ viewer. viewer.standing.view.state.screen ≡ chain.terminal.view.state.screen))))
+      (round_shows width_of answers 0 chain stays (All-nil (λ viewer. viewer.standing.view.state.screen ≡ chain.terminal.view.state.screen))))
 
 -- ---- the terminal, and how many viewers there are
 

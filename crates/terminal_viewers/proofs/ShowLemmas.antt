@@ -20,8 +20,7 @@ use Rattle.screen_effects.specs.Effect.{effect, replay}
 use Rattle.screen_effects.specs.Resize.{resized_screen}
 use Rattle.screen_effects.proofs.EffectLaws.{replay_is, resized_is}
 use Rattle.terminal_render.proofs.ViewLemmas.{display_on_is, replay_size}
-use Rattle.terminal_table.specs.Changes.{changes_of}
-use Rattle.terminal_table.specs.Functions.{function_of}
+use Rattle.terminal_table.specs.Requests.{acted_changes}
 use Rattle.terminal_table.specs.History.{History, Piece, Look, Resize, Forget, Event, Act, Looked, Resized, Forgot, events}
 use Rattle.terminal_table.specs.Logged.{run_logged, event_logged, events_logged, log_after}
 use Rattle.terminal_table.specs.Meaning.{View, settled, event_done, after}
@@ -154,19 +153,19 @@ module _ (width_of : List ℕ → ℕ) where
   pub action_changes : (v : View) (action : StreamAction) → AreChanges (event_logged width_of v (Act action))
   action_changes v action = by_test (is_print action)
     where
-      by_test : (b : Bool) → AreChanges (if b then [] else run_logged v ++ map Logged (changes_of (function_of action) (settled width_of v).state))
+      by_test : (b : Bool) → AreChanges (if b then [] else run_logged v ++ map Logged (acted_changes action (settled width_of v).state))
       by_test true = tt
-      by_test false = changes-append (run_logged v) (map Logged (changes_of (function_of action) (settled width_of v).state)) (run_changes v) (changes-logged (changes_of (function_of action) (settled width_of v).state))
+      by_test false = changes-append (run_logged v) (map Logged (acted_changes action (settled width_of v).state)) (run_changes v) (changes-logged (acted_changes action (settled width_of v).state))
 
-  settled_shows : (shown : Screen) (number : ℕ) (v : View) (s : Sized) → IsView v → IsDisplay (display_on shown) → HasReached number s → Shows width_of shown number v.state.screen s
+  settled_shows : (shown : Screen) (number : ℕ) (v : View) (s : Sized) → IsView width_of v → IsDisplay (display_on shown) → HasReached number s → Shows width_of shown number v.state.screen s
       → Shows width_of shown number (settled width_of v).state.screen (fold step_of_kept s (run_logged v))
   settled_shows shown number v s h k r p =
-      shows_on shown number v.state.screen (settled width_of v).state.screen s (run_logged v) k (display_on_is v.state h.lawful) r (run_changes v) (λ d l e. (event_turns width_of v Looked d h tt l e).screen) p
+      shows_on shown number v.state.screen (settled width_of v).state.screen s (run_logged v) k (display_on_is v.state.screen h.lawful.lawful h.lawful.whole) r (run_changes v) (λ d l e. (event_turns width_of v Looked d h tt l e).screen) p
 
-  event_shows : (shown : Screen) (number : ℕ) (v : View) (event : Event) (s : Sized) → IsView v → IsEvent event → IsDisplay (display_on shown) → HasReached number s → Shows width_of shown number v.state.screen s
+  event_shows : (shown : Screen) (number : ℕ) (v : View) (event : Event) (s : Sized) → IsView width_of v → IsEvent event → IsDisplay (display_on shown) → HasReached number s → Shows width_of shown number v.state.screen s
       → Shows width_of (repeated_at event shown) number (event_done width_of v event).state.screen (fold step_of_kept s (event_logged width_of v event))
   event_shows shown number v (Act action) s h l k r p =
-      shows_on shown number v.state.screen (event_done width_of v (Act action)).state.screen s (event_logged width_of v (Act action)) k (display_on_is v.state h.lawful) r (action_changes v action) (λ d m e. (event_turns width_of v (Act action) d h l m e).screen) p
+      shows_on shown number v.state.screen (event_done width_of v (Act action)).state.screen s (event_logged width_of v (Act action)) k (display_on_is v.state.screen h.lawful.lawful h.lawful.whole) r (action_changes v action) (λ d m e. (event_turns width_of v (Act action) d h l m e).screen) p
   event_shows shown number v Looked s h l k r p = settled_shows shown number v s h k r p
   event_shows shown number v (Resized width tall) s h l k r p =
       subst (Shows width_of (resized_screen width tall shown) number (resized_screen width tall (settled width_of v).state.screen)) (sym (fold-append step_of_kept s (run_logged v) (log.Resized (most_due width tall) ∷ [])))
@@ -185,7 +184,7 @@ module _ (width_of : List ℕ → ℕ) where
   all_repeated [] screen = screen
   all_repeated (event ∷ es) screen = all_repeated es (repeated_at event screen)
 
-  all_show : (shown : Screen) (number : ℕ) (v : View) (es : List Event) (s : Sized) → IsView v → AreEvents es → IsDisplay (display_on shown) → HasReached number s → Shows width_of shown number v.state.screen s
+  all_show : (shown : Screen) (number : ℕ) (v : View) (es : List Event) (s : Sized) → IsView width_of v → AreEvents es → IsDisplay (display_on shown) → HasReached number s → Shows width_of shown number v.state.screen s
       → Shows width_of (all_repeated es shown) number (fold (event_done width_of) v es).state.screen (fold step_of_kept s (events_logged width_of v es))
   all_show shown number v [] s h l k r p = p
   all_show shown number v (event ∷ es) s h l k r p =
@@ -207,7 +206,7 @@ module _ (width_of : List ℕ → ℕ) where
   history_repeated stream (Resize width tall ∷ history) screen = history_repeated stream history (resized_screen width tall screen)
   history_repeated stream (Forget number ∷ history) screen = history_repeated stream history screen
 
-  pub history_shows : AllCut → (shown : Screen) (number : ℕ) (v : View) (s : Sized) (history : History) → IsView v → AreSizes history → IsDisplay (display_on shown) → length s.log.entries ≤ s.log.number → number ≤ s.log.number
+  pub history_shows : AllCut → (shown : Screen) (number : ℕ) (v : View) (s : Sized) (history : History) → IsView width_of v → AreSizes history → IsDisplay (display_on shown) → length s.log.entries ≤ s.log.number → number ≤ s.log.number
       → Shows width_of shown number v.state.screen s → Shows width_of (repeated history shown) number (after width_of v history).state.screen (log_after width_of v s history)
   history_shows cut shown number v s history h l k c r p =
       subst (λ x. Shows width_of x number (after width_of v history).state.screen (log_after width_of v s history)) (history_repeated v.stream history shown)

@@ -1,43 +1,34 @@
 -- The changes of an update have an encoding.
-use Rattle.std.proofs.Common.{◌≡◌, ℕ, ◌+◌, ◌<◌, ◌≤◌, inl, List, [], ◌∷◌, ◌++◌, length, sym, subst, arith}
-use Rattle.std.specs.Prelude.{◌==◌, ⊤, IfSome, Option, Some, None, fold}
+use Rattle.std.proofs.Common.{◌≡◌, ℕ, ◌+◌, ◌<◌, inl, List, [], ◌∷◌, ◌++◌, length, sym, subst, arith}
+use Rattle.std.specs.Prelude.{◌==◌, IfSome, Option, Some, None}
 use Rattle.std.specs.List.{flat_map}
 use Rattle.std.proofs.lemmas.Bool.Decides.{nat_tests}
 use Rattle.cell_base.specs.declared.attributes.CursorVisibility.TheVariants.{Hidden}
 use Rattle.cell_base.specs.declared.attributes.Position.TheVariants.{Absolute}
 use Rattle.cell_base.specs.declared.color.ColorAttribute.TheVariants as attribute
 use Rattle.cell_base.specs.Attributes.{plain}
-use Rattle.cell_base.specs.Row.{Row, Narrow, LeftHalf, RightHalf}
+use Rattle.cell_base.specs.Row.{Row}
 use Rattle.cell_base.specs.Screen.{Screen, IsScreen, height}
 use Rattle.screen_change.specs.ChangeValue.{ChangeValue, AllAttributes, ClearScreen, CursorPosition, CursorVisibility, Text, Title}
 use Rattle.screen_change.proofs.TextLemmas.{by_test}
-use Rattle.cell_edits.specs.VisibleCells.{VisibleCell, visible_at, visible_from}
+use Rattle.cell_edits.specs.VisibleCells.{VisibleCell}
 use Rattle.screen_log.specs.Log.{due}
 use Rattle.screen_log.specs.LogSteps.{Sized}
 use Rattle.screen_effects.specs.Display.{IsDisplay}
 use Rattle.screen_effects.specs.Effect.{cursor_row}
 use Rattle.screen_repaint.specs.Repaint.{are_some, cursor_shown, pen_left}
-use Rattle.terminal_render.specs.Spelling.{HaveEncodings, IsSpelledPen, IsSpelledRow, IsSpelledRun, IsSpelledScreen}
+use Rattle.terminal_render.specs.Spelling.{HaveEncodings, IsSpelledScreen}
 use Rattle.terminal_render.proofs.ChangeLemmas.{is_encoded, coordinate_some, encodings_append}
+use Rattle.terminal_render.proofs.LedLemmas.{IsSpelledLast, last_from}
 use Rattle.terminal_render.proofs.LogLemmas.{due_has}
 use Rattle.terminal_viewers.proofs.RepaintLemmas.{due_encoded, placed_encoded, rows_encoded, shown_encoded}
-use Rattle.terminal_viewers.specs.Update.{display_on, due_or, last_cell, painted_anew, as_encoded, update_changes, written_again}
+use Rattle.terminal_table.specs.Led.{last_cell, written_again}
+use Rattle.terminal_viewers.specs.Update.{display_on, due_or, painted_anew, as_encoded, update_changes}
 use Rattle.terminal_viewers.proofs.PaintLemmas.{due_of, prefix_of, painted_rows, position_of, encoded_here, encoded_is, encoded_there}
 
 -- ---- the last cell of a row
 
--- the cell, if there is one, has a text and attributes with an encoding, and a column less than `bound`
-abbrev pub IsSpelledCell : ℕ → Option VisibleCell → Type 0
-IsSpelledCell bound None = ⊤
-IsSpelledCell bound (Some v) = IsSpelledRun v.cell.text × IsSpelledPen v.cell.attributes × (v.column < bound)
-
-pub last_from : (bound at : ℕ) (row : Row) (start : Option VisibleCell) → at + length row ≤ bound → IsSpelledRow row → IsSpelledCell bound start → IsSpelledCell bound (fold (λ _ v. Some v) start (visible_from at row))
-last_from bound at [] start h p q = q
-last_from bound at (Narrow text attributes ∷ row) start h p q = last_from bound (at + 1) row (Some (visible_at at text 1 attributes)) (omega (arith, h)) p.2 (p.0, p.1, omega (arith, h))
-last_from bound at (LeftHalf text attributes ∷ row) start h p q = last_from bound (at + 1) row (Some (visible_at at text 2 attributes)) (omega (arith, h)) p.2 (p.0, p.1, omega (arith, h))
-last_from bound at (RightHalf attributes ∷ row) start h p q = last_from bound (at + 1) row start (omega (arith, h)) p.1 q
-
-written_encoded : (s : Screen) → IsSpelledScreen s → (o : Option VisibleCell) → IsSpelledCell s.width o → HaveEncodings s.width (height s) (written_again s o)
+written_encoded : (s : Screen) → IsSpelledScreen s → (o : Option VisibleCell) → IsSpelledLast s.width o → HaveEncodings s.width (height s) (written_again s o)
 written_encoded s p None q = tt
 written_encoded s p (Some v) q =
     let w = s.width in

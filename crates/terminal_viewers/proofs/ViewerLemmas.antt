@@ -89,13 +89,13 @@ module _ (writes : SpelledChangesAreWritable) (width_of : List ℕ → ℕ) (vie
   pub changes_are_shown : ListTextsHaveTheEffect → (after width_of viewer (Piece (bytes_for screen changes) ∷ [])).state ≡ record viewer.state { screen = screen }
   changes_are_shown texts =
       ap (λ bytes. (after width_of viewer (Piece bytes ∷ [])).state) encoded_changes.bytes
-      ∙ ap (λ (v : View). v.state) (texts width_of viewer (display_on viewer.state.screen) changes encoded_changes.actions can.ready can.idle encoded_changes.writable (display_on_is viewer.state can.ready.lawful) refl encoded_changes.rendered)
+      ∙ ap (λ (v : View). v.state) (texts width_of viewer (display_on viewer.state.screen) changes encoded_changes.actions can.ready can.idle encoded_changes.writable (display_on_is viewer.state.screen can.ready.lawful can.ready.whole) refl encoded_changes.rendered)
       ∙ ap (λ x. record viewer.state { screen = x }) can.leads
 
   pub changes_leave_idle : ListTextsLeaveIdle → IsIdle (after width_of viewer (Piece (bytes_for screen changes) ∷ []))
   changes_leave_idle idles =
       subst (λ bytes. IsIdle (after width_of viewer (Piece bytes ∷ []))) (sym encoded_changes.bytes)
-      (idles width_of viewer (display_on viewer.state.screen) changes encoded_changes.actions can.ready can.idle encoded_changes.writable (display_on_is viewer.state can.ready.lawful) refl encoded_changes.rendered)
+      (idles width_of viewer (display_on viewer.state.screen) changes encoded_changes.actions can.ready can.idle encoded_changes.writable (display_on_is viewer.state.screen can.ready.lawful can.ready.whole) refl encoded_changes.rendered)
 
 -- ---- updates are changes of this kind
 
@@ -112,7 +112,7 @@ module _ (paints : UpdatesPaintTheScreen) (spells : UpdatesHaveEncodings) where
   }
     where
       painted : replayed_on width_of viewer.state.screen (painted_anew screen) ≡ screen
-      painted = paints width_of (display_on viewer.state.screen) screen can.narrow can.display can.sound (display_on_is viewer.state can.ready.lawful) can.shows.wide can.shows.tall
+      painted = paints width_of (display_on viewer.state.screen) screen can.narrow can.display can.sound (display_on_is viewer.state.screen can.ready.lawful can.ready.whole) can.shows.wide can.shows.tall
 
       due_leads : (changes : Option (List ChangeValue)) → IfSome changes (λ cs. replayed_on width_of viewer.state.screen cs ≡ screen) → replayed_on width_of viewer.state.screen (due_or (painted_anew screen) changes) ≡ screen
       due_leads None h = painted

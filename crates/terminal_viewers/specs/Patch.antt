@@ -1,8 +1,7 @@
 -- The bytes that bring a viewer up to date that shows another screen of the same size.
 use Rattle.std.specs.Prelude.{ℕ, ◌==◌, List, [], ◌∷◌, ◌++◌, Option, Some, None, if◌then◌else◌}
-use Rattle.cell_base.specs.declared.attributes.Position.TheVariants.{Absolute}
 use Rattle.cell_base.specs.Screen.{Screen, height}
-use Rattle.screen_change.specs.ChangeValue.{ChangeValue, AllAttributes, CursorPosition, CursorVisibility, Title}
+use Rattle.screen_change.specs.ChangeValue.{ChangeValue, CursorVisibility, Title}
 use Rattle.cell_edits.specs.VisibleCells.{VisibleCell}
 use Rattle.screen_difference.specs.Difference.{difference}
 use Rattle.screen_difference.specs.FreshCells.{screen_fresh}
@@ -10,14 +9,8 @@ use Rattle.screen_effects.specs.Effect.{cursor_row}
 use Rattle.screen_difference.specs.Prints.{PlacedText}
 use Rattle.terminal_render.specs.Lists.{all_rendered}
 use Rattle.terminal_table.specs.Changes.{visibility}
-use Rattle.terminal_viewers.specs.Update.{bytes_of, last_cell, written_again}
-
--- The cursor's position and the pen. Only a printed character moves the cursor past the last column: so where a wrap is
--- pending, the last visible cell of the cursor's row is written once more, and then the pen is set.
-abbrev pub position_and_pen : Screen → List ChangeValue
-position_and_pen screen =
-    if screen.column == screen.width then written_again screen (last_cell (cursor_row screen))
-    else CursorPosition (Absolute screen.column) (Absolute screen.row) ∷ AllAttributes screen.pen ∷ []
+use Rattle.terminal_table.specs.Led.{last_cell, position_and_pen}
+use Rattle.terminal_viewers.specs.Update.{bytes_of}
 
 -- the changes of a patch: the title, the cells that the old screen doesn't show, the cursor's position and the pen, and
 -- whether the cursor is visible

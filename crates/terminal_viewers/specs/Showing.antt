@@ -1,25 +1,20 @@
 -- What the laws of sessions say.
 use Rattle.std.specs.Prelude.{◌≡◌, ℕ, zero, suc, ◌<◌, ◌≤◌, ◌^◌, ⊤, All, List, [], ◌∷◌, ◌++◌, length, take}
-use Rattle.cell_base.specs.Row.{space}
 use Rattle.cell_base.specs.Screen.{Screen, height}
 use Rattle.cell_base.specs.ScreenSize.{IsScreenSize}
-use Rattle.screen_effects.specs.WrittenCells.{IsSoundDisplay}
 use Rattle.terminal_viewers.specs.Sessions.{Answer, Turn, Goes, Answers, Forgets, Viewer, Chain, new_chain, round}
 use Rattle.terminal_viewers.specs.Sessions.{session, steps_of, with_taken}
 use Rattle.terminal_render.specs.Spelling.{HaveEncodings, IsSpelledView}
 use Rattle.terminal_table.specs.History.{Step, Piece, Look, Resize, Forget}
 use Rattle.terminal_table.specs.Turns.{IsView}
-use Rattle.terminal_viewers.specs.Update.{display_on}
 use Rattle.terminal_viewers.specs.Updates.{Standing, standing_after}
 
--- A terminal at a standing can answer viewers: its state is lawful, with less than 2^32 columns and rows; its cells are
--- sound; the cells, the run and the changes that the log keeps have an encoding; and each of these changes has a
--- number.
+-- A terminal at a standing can answer viewers: its state is lawful, with less than 2^32 columns and rows; the cells, the
+-- run and the changes that the log keeps have an encoding; and each of these changes has a number.
 pub record CanAnswer (width_of : List ℕ → ℕ) (s : Standing) : Type 0 where
-  pub lawful : IsView s.view
+  pub lawful : IsView width_of s.view
   pub wide : s.view.state.screen.width < 2 ^ 32
   pub tall : height s.view.state.screen < 2 ^ 32
-  pub sound : IsSoundDisplay width_of (display_on s.view.state.screen)
   pub spelled : IsSpelledView s.view
   pub encodings : HaveEncodings s.view.state.screen.width (height s.view.state.screen) s.log.log.entries
   pub counted : length s.log.log.entries ≤ s.log.log.number
@@ -46,7 +41,7 @@ IsShown (suc at) one (viewer ∷ viewers) = IsShown at viewer.standing viewers
 abbrev pub AnswersAreShown : Type 0
 AnswersAreShown =
     (width_of : List ℕ → ℕ) (terminal : Standing) (count : ℕ) (turns : List Turn) (at : ℕ) (answer : Answer)
-    → width_of space ≡ 1 → CanAnswer width_of terminal → All IsTurn turns
+    → CanAnswer width_of terminal → All IsTurn turns
     → let chain =
     session width_of (new_chain terminal count) (turns ++ Answers at answer ∷ []) in IsShown at chain.terminal
     chain.viewers
@@ -58,7 +53,7 @@ AllShow screen viewers = All (λ viewer. viewer.standing.view.state.screen ≡ s
 abbrev pub RoundsAreShown : Type 0
 RoundsAreShown =
     (width_of : List ℕ → ℕ) (terminal : Standing) (count : ℕ) (turns : List Turn) (answers : List Answer)
-    → width_of space ≡ 1 → CanAnswer width_of terminal → All IsTurn turns
+    → CanAnswer width_of terminal → All IsTurn turns
     → let chain =
     session width_of (new_chain terminal count) (turns ++ round 0 answers) in AllShow
     chain.terminal.view.state.screen (take (length answers) chain.viewers)

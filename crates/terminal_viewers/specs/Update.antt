@@ -1,12 +1,10 @@
 -- The update for a viewer that has seen the changes before a number.
-use Rattle.std.specs.Prelude.{ℕ, ◌==◌, List, [], ◌∷◌, fold, replicate, Option, Some, None, if◌then◌else◌}
+use Rattle.std.specs.Prelude.{ℕ, ◌==◌, List, [], ◌∷◌, replicate, Option, Some, None, if◌then◌else◌}
 use Rattle.std.specs.List.{flat_map}
 use Rattle.cell_base.specs.declared.attributes.LineAttribute.TheVariants.{SingleWidthLine}
 use Rattle.cell_base.specs.declared.attributes.Position.TheVariants.{Absolute}
-use Rattle.cell_base.specs.Row.{Row}
 use Rattle.cell_base.specs.Screen.{Screen, height}
-use Rattle.screen_change.specs.ChangeValue.{ChangeValue, AllAttributes, CursorPosition, Text, Title}
-use Rattle.cell_edits.specs.VisibleCells.{VisibleCell, visible_cells}
+use Rattle.screen_change.specs.ChangeValue.{ChangeValue, CursorPosition, Title}
 use Rattle.screen_log.specs.Log.{due}
 use Rattle.screen_log.specs.LogSteps.{Sized}
 use Rattle.escape_stream.specs.StreamAction.{StreamAction}
@@ -15,23 +13,13 @@ use Rattle.screen_effects.specs.Display.{Display}
 use Rattle.screen_effects.specs.Effect.{cursor_row}
 use Rattle.screen_repaint.specs.Repaint.{repaint_with}
 use Rattle.terminal_render.specs.Lists.{all_rendered}
+use Rattle.terminal_table.specs.Led.{last_cell, written_again}
 
 -- a screen by itself: its rows have single width, and the cursor has no shape
 abbrev pub display_on : Screen → Display
 display_on screen = record { screen = screen; sizes = replicate (height screen) SingleWidthLine; shape = None }
 
--- ---- the position of a pending wrap
-
--- the last visible cell of a row, if there is one
-abbrev pub last_cell : Row → Option VisibleCell
-last_cell row = fold (λ _ v. Some v) None (visible_cells row)
-
--- a cell of the cursor's row written once more at its position, and the pen as it was
-abbrev pub written_again : Screen → Option VisibleCell → List ChangeValue
-written_again screen None = []
-written_again screen (Some v) =
-    CursorPosition (Absolute v.column) (Absolute screen.row) ∷ AllAttributes v.cell.attributes ∷ Text v.cell.text
-    ∷ AllAttributes screen.pen ∷ []
+-- ---- an update
 
 -- A change of a repaint as it can be encoded: only a printed character moves the cursor past the last column, so for
 -- the position of a pending wrap the last visible cell of the cursor's row is written once more.
@@ -40,8 +28,6 @@ as_encoded screen (CursorPosition (Absolute column) y) =
     if column == screen.width then written_again screen (last_cell (cursor_row screen))
     else CursorPosition (Absolute column) y ∷ []
 as_encoded screen change = change ∷ []
-
--- ---- an update
 
 -- the screen painted anew, with its title, also an empty one
 abbrev pub painted_anew : Screen → List ChangeValue

@@ -9,11 +9,11 @@ use Rattle.screen_effects.specs.Display.{IsDisplay}
 use Rattle.screen_effects.specs.Resize.{resized_screen}
 use Rattle.screen_effects.specs.WrittenCells.{IsSoundDisplay}
 use Rattle.terminal_render.specs.Effects.{IsReady}
-use Rattle.terminal_render.specs.Spelling.{HaveEncodings, IsSpelledEvent, IsSpelledScreen, IsSpelledView}
+use Rattle.terminal_render.specs.Spelling.{HaveEncodings, IsSpelledScreen}
 use Rattle.terminal_table.specs.Alone.{IsIdle}
-use Rattle.terminal_table.specs.History.{Event, History, Piece, Look, Resize, Forget}
+use Rattle.terminal_table.specs.History.{History, Piece, Look, Resize, Forget}
 use Rattle.terminal_table.specs.Logged.{log_after}
-use Rattle.terminal_table.specs.Meaning.{View, new_view, after, event_done}
+use Rattle.terminal_table.specs.Meaning.{View, new_view, after}
 use Rattle.terminal_table.specs.Turns.{AreSizes, IsView}
 use Rattle.terminal_viewers.specs.Shows.{Shows}
 use Rattle.terminal_viewers.specs.Update.{display_on, update_of}
@@ -27,35 +27,14 @@ repeated (Look ∷ history) screen = repeated history screen
 repeated (Resize width height ∷ history) screen = repeated history (resized_screen width height screen)
 repeated (Forget number ∷ history) screen = repeated history screen
 
--- ---- sound screens
-
-abbrev pub NewViewsAreSound : Type 0
-NewViewsAreSound =
-    (width_of : List ℕ → ℕ) (width height : ℕ) → width_of space ≡ 1
-    → IsSoundDisplay width_of (display_on (new_view width height).state.screen)
-
-abbrev pub EventsKeepSound : Type 0
-EventsKeepSound =
-    (width_of : List ℕ → ℕ) (view : View) (event : Event) → width_of space ≡ 1 → IsView view → IsSpelledView view
-    → IsSpelledEvent event
-    → IsSoundDisplay width_of (display_on view.state.screen)
-    → IsSoundDisplay width_of (display_on (event_done width_of view event).state.screen)
-
-abbrev pub HistoriesKeepSound : Type 0
-HistoriesKeepSound =
-    (width_of : List ℕ → ℕ) (view : View) (history : History) → width_of space ≡ 1 → IsView view → AreSizes history
-    → IsSpelledView view
-    → IsSoundDisplay width_of (display_on view.state.screen)
-    → IsSoundDisplay width_of (display_on (after width_of view history).state.screen)
-
 -- ---- what is shown at a number
 
 -- a viewer that shows a terminal at a number, and repeats the resizes of a history, shows at that number the terminal
 -- after the history
 abbrev pub ViewersGoOnShowing : Type 0
 ViewersGoOnShowing =
-    (width_of : List ℕ → ℕ) (shown : Screen) (number : ℕ) (view : View) (log : Sized) (history : History) → IsView view
-    → AreSizes history → IsDisplay (display_on shown)
+    (width_of : List ℕ → ℕ) (shown : Screen) (number : ℕ) (view : View) (log : Sized) (history : History)
+    → IsView width_of view → AreSizes history → IsDisplay (display_on shown)
     → length log.log.entries ≤ log.log.number → number ≤ log.log.number
     → Shows width_of shown number view.state.screen log
     → Shows width_of (repeated history shown) number (after width_of view history).state.screen
@@ -124,6 +103,7 @@ AreFed (Forget number ∷ history) = ⊥
 pub record AreAlike (one other : View) : Type 0 where
   pub screen : one.state.screen ≡ other.state.screen
   pub saved : one.state.saved ≡ other.state.saved
+  pub modes : one.state.modes ≡ other.state.modes
   pub stream : one.stream ≡ other.stream
   pub held : one.held ≡ other.held
 

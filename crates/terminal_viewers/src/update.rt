@@ -16,7 +16,8 @@ ghost use Rattle.screen_effects.specs.Effect.{cursor_row};
 ghost use Rattle.terminal_render.specs.Spelling.{HasEncoding, HaveEncodings};
 ghost use Rattle.terminal_viewers.specs.Encodable.{CanBeEncoded};
 ghost use Rattle.terminal_viewers.specs.Encoding.{is_pending, encoded_text, encoded_texts};
-ghost use Rattle.terminal_viewers.specs.Update.{last_cell, as_encoded, update_changes, update_of, written_again};
+ghost use Rattle.terminal_table.specs.Led.{last_cell, written_again};
+ghost use Rattle.terminal_viewers.specs.Update.{as_encoded, update_changes, update_of};
 
 use cell_base::{CellAttributes, Position, SequenceNo, Widths};
 use cell_line::{CellRef, Line};

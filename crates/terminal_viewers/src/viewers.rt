@@ -1,6 +1,5 @@
 //! Laws of viewers: which screen a viewer shows that reads updates. Each is the contract of a function that does
 //! nothing.
-ghost use Rattle.terminal_viewers.specs.Viewers.{EventsKeepSound, HistoriesKeepSound, NewViewsAreSound};
 ghost use Rattle.terminal_viewers.specs.Viewers.{ScreensShowThemselves, UpdatesAreShown, UpdatesLeaveIdle};
 ghost use Rattle.terminal_viewers.specs.Viewers.{UpdatesLeaveNewViewersIdle, UpdatesShowTheInput, ViewersGoOnShowing};
 
@@ -9,17 +8,6 @@ use escape_framing::laws::one_cut;
 use escape_stream::action_laws::actions_of_chunks_join;
 use terminal_render::encoding_laws::spelled_changes_are_writable;
 use terminal_render::laws::lists_have_the_effect;
-
-/// Each cell of a terminal's screen has a text that is by itself one cluster (UAX 29), without C0
-/// controls and DEL, and the columns that this text takes: so it is on a new screen, and so it stays
-/// after all events that have an encoding. A space takes one column.
-pub fn views_stay_sound()
-    ensures new { NewViewsAreSound }
-    ensures event { EventsKeepSound }
-    ensures history { HistoriesKeepSound }
-{
-    one_cut();
-}
 
 /// A screen that shows a terminal's screen at a number goes on to show it at that number, whatever bytes the
 /// terminal reads, wherever it takes a look and whatever its log forgets, if the screen repeats the terminal's

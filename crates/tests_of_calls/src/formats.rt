@@ -103,7 +103,8 @@ fn looks(rt: HostRuntime) {
         "<pre class=\"screen\" style=\"color:#e5e5e5;background-color:#000000;line-height:1.25;\">\
          <span class=\"bold italic curly-underline overline strikethrough blink reverse superscript \" \
          style=\"color:#000000;background-color:#cd0000;font-weight:bold;font-style:italic;\
-         text-decoration:underline overline line-through ;text-decoration-style:wavy;\">&#39;\
+         text-decoration:underline overline line-through ;text-decoration-style:wavy;\
+         display:inline-block;width:1ch;\">&#39;\
          </span>\n</pre>\n",
     );
     assert_ansi(
@@ -147,12 +148,12 @@ fn pictures(rt: HostRuntime) {
     assert_svg(
         &rt,
         &surface,
-        "<svg xmlns=\"http://www.w3.org/2000/svg\" width=\"10\" height=\"20\" viewBox=\"0 0 10 20\" \
-         font-family=\"monospace\" font-size=\"16\">\
-         <title>&lt;\u{FFFD}&gt;</title><rect x=\"0\" y=\"0\" width=\"10\" height=\"20\" fill=\"#000000\"></rect>\
-         <a href=\"file:x\"><text x=\"0\" y=\"15\" textLength=\"10\" xml:space=\"preserve\" \
-         style=\"fill:#e5e5e5;\">x</text></a>\
-         <rect x=\"0\" y=\"0\" width=\"10\" height=\"20\" fill=\"#e5e5e5\" fill-opacity=\"0.5\"></rect></svg>\n",
+        "<svg xmlns=\"http://www.w3.org/2000/svg\" width=\"10\" height=\"18\" viewBox=\"0 0 10 18\" \
+         font-family=\"monospace\" font-size=\"16.7\">\
+         <title>&lt;\u{FFFD}&gt;</title><rect x=\"0\" y=\"0\" width=\"10\" height=\"18\" fill=\"#000000\"></rect>\
+         <a href=\"file:x\"><text x=\"0\" y=\"14\" textLength=\"10\" xml:space=\"preserve\" \
+         style=\"fill:#e5e5e5;text-decoration:underline;\">x</text></a>\
+         <rect x=\"0\" y=\"0\" width=\"10\" height=\"18\" fill=\"#e5e5e5\" fill-opacity=\"0.5\"></rect></svg>\n",
     );
 }
 
@@ -182,14 +183,14 @@ fn markup_in_texts_and_titles(rt: HostRuntime) {
     assert_svg(
         &rt,
         &surface,
-        "<svg xmlns=\"http://www.w3.org/2000/svg\" width=\"70\" height=\"20\" viewBox=\"0 0 70 20\" \
-         font-family=\"monospace\" font-size=\"16\">\
+        "<svg xmlns=\"http://www.w3.org/2000/svg\" width=\"70\" height=\"18\" viewBox=\"0 0 70 18\" \
+         font-family=\"monospace\" font-size=\"16.7\">\
          <title>&lt;&amp;&gt;&quot;&#39;\u{FFFD}</title>\
-         <rect x=\"0\" y=\"0\" width=\"70\" height=\"20\" fill=\"#000000\"></rect>\
-         <text x=\"0\" y=\"15\" textLength=\"20\" xml:space=\"preserve\" style=\"fill:#e5e5e5;\">漢</text>\
-         <text x=\"20\" y=\"15\" textLength=\"50\" xml:space=\"preserve\" \
+         <rect x=\"0\" y=\"0\" width=\"70\" height=\"18\" fill=\"#000000\"></rect>\
+         <text x=\"0\" y=\"14\" textLength=\"20\" xml:space=\"preserve\" style=\"fill:#e5e5e5;\">漢</text>\
+         <text x=\"20\" y=\"14\" textLength=\"50\" xml:space=\"preserve\" \
          style=\"fill:#e5e5e5;\">&lt;&amp;&gt;&quot;&#39;</text>\
-         <rect x=\"60\" y=\"0\" width=\"10\" height=\"20\" fill=\"#e5e5e5\" fill-opacity=\"0.5\"></rect></svg>\n",
+         <rect x=\"60\" y=\"0\" width=\"10\" height=\"18\" fill=\"#e5e5e5\" fill-opacity=\"0.5\"></rect></svg>\n",
     );
     assert_ansi(&rt, &surface, "\u{1b}[0m漢\u{1b}[0m<&>\"'\u{1b}[0m\n");
 }

@@ -1,8 +1,7 @@
 //! Cells at the start of a text that are one character each.
 ghost use Rattle.std.specs.Prelude.{◌≡◌, true, drop, IfOk, IfSome};
 ghost use Rattle.std.specs.Str.{IsCharBoundary};
-ghost use Rattle.text_clusters.specs.Independent.{begins_independent};
-ghost use Rattle.clustered_row.specs.SingleText.{BeginsSingle};
+ghost use Rattle.clustered_row.specs.SingleText.{BeginsSingle, begins_alone, stands_alone};
 ghost use Rattle.clustered_row.specs.Walk.{IsWalked};
 
 use crate::cell_size::CellSize;
@@ -11,13 +10,21 @@ use cell_base::Widths;
 use std::alloc::AllocError;
 use text_clusters::{begins_independent, begins_printable, first_character, is_independent};
 
-// The first character of a text, where it is independent: its length in bytes, and the columns that it takes by
-// itself, where 0 counts as 1.
+// Whether a character stands alone: it is independent, or U+FFFD, of which bytes that aren't UTF-8 make many.
+#[inline(always)]
+fn stands_alone(character: char) -> bool
+    ensures { result ≡ stands_alone character }
+{
+    is_independent(character) || character == '\u{fffd}'
+}
+
+// The first character of a text, where it stands alone: its length in bytes, and the columns that it takes by itself,
+// where 0 counts as 1.
 #[inline(always)]
 fn first_single<W: Widths>(text: &str, w: &W) -> Option<(usize, usize)>
     ensures single { IfSome result (λ first. BeginsSingle (W.width_of w.now) text.now first.0 first.1) }
     ensures cut { IfSome result (λ first. IsCharBoundary text.now first.0) }
-    ensures independent { IfSome result (λ first. begins_independent text.now ≡ true) }
+    ensures alone { IfSome result (λ first. begins_alone text.now ≡ true) }
 {
     if begins_printable(text) && w.has_narrow_ascii() {
         return Some((1, 1));
@@ -26,7 +33,7 @@ fn first_single<W: Widths>(text: &str, w: &W) -> Option<(usize, usize)>
     if let Some(columns) = w.letter_columns(character) {
         return Some((len, usize::from(columns)));
     }
-    if is_independent(character) {
+    if stands_alone(character) {
         return Some((len, usize::from(w.character_width(character)).max(1)));
     }
     None

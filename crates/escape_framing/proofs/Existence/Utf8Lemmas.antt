@@ -47,7 +47,7 @@ pub some_last : (xs : List ℕ) (b : ℕ) → xs ++ b ∷ [] ≢ []
 some_last [] b h = cc
 some_last (x ∷ xs) b h = cc
 
-in_range : (lo hi x : ℕ) → lo ≤ x → x ≤ hi → is_in_range lo hi x ≡ true
+pub in_range : (lo hi x : ℕ) → lo ≤ x → x ≤ hi → is_in_range lo hi x ≡ true
 in_range lo hi x l h = grind (arith, nat_tests)
 
 -- the second byte is one that may follow the first
@@ -68,11 +68,11 @@ pub lead_wants : (x : ℕ) → 194 ≤ x → x ≤ 244 → utf8_error_len (x ∷
 unfolding utf8_error_len
 lead_wants x l h = rw (in_range 194 244 x l h) refl
 
-pair_wants : (x y : ℕ) → 194 ≤ x → x ≤ 244 → is_in_range (second_byte_min x) (second_byte_max x) y ≡ true → utf8_error_len (x ∷ y ∷ []) ≡ None
+pub pair_wants : (x y : ℕ) → 194 ≤ x → x ≤ 244 → is_in_range (second_byte_min x) (second_byte_max x) y ≡ true → utf8_error_len (x ∷ y ∷ []) ≡ None
 unfolding utf8_error_len
 pair_wants x y l h e = rw (in_range 194 244 x l h, e) refl
 
-triple_wants : (x y z : ℕ) → 194 ≤ x → x ≤ 244 → is_in_range (second_byte_min x) (second_byte_max x) y ≡ true → 0x80 ≤ z → z ≤ 0xBF → utf8_error_len (x ∷ y ∷ z ∷ []) ≡ None
+pub triple_wants : (x y z : ℕ) → 194 ≤ x → x ≤ 244 → is_in_range (second_byte_min x) (second_byte_max x) y ≡ true → 0x80 ≤ z → z ≤ 0xBF → utf8_error_len (x ∷ y ∷ z ∷ []) ≡ None
 unfolding utf8_error_len
 triple_wants x y z l h e m n = rw (in_range 194 244 x l h, e, in_range 0x80 0xBF z m n) refl
 

@@ -19,7 +19,7 @@ impl<'p, 'a> Reading<'p, 'a> {
     {
         let before = self.count;
         let bytes = self.rest();
-        let (body, count) = self.parser.whole_command(bytes)?;
+        let (body, count) = self.parser.framer().whole_command(bytes)?;
         self.count = before + count;
         Some(self.parser.command_action(body))
     }

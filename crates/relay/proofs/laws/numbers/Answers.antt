@@ -1,24 +1,24 @@
 use Rattle.std.proofs.Common.{refl}
 use Rattle.clap.proofs.OnLiterals.{clap_on_literals}
-use Rattle.relay.specs.CommandLine.{command_line, faults_in, is_true, text_in, number_or}
+use Rattle.relay.specs.CommandLine.{command_line, faults_in, is_true, number_or, profile_named, terminal_in, text_in}
 use Rattle.relay.proofs.laws.numbers.Goals as goal
 
 pub returns-clause-taken : goal.returns-clause-taken
-unfolding clap_on_literals command_line faults_in text_in number_or
+unfolding clap_on_literals command_line faults_in terminal_in profile_named
 returns-clause-taken c = refl
 
 pub returns-clause-width : goal.returns-clause-width
-unfolding clap_on_literals command_line faults_in text_in number_or
+unfolding clap_on_literals command_line text_in number_or
 returns-clause-width c = refl
 
 pub returns-clause-height : goal.returns-clause-height
-unfolding clap_on_literals command_line faults_in text_in number_or
+unfolding clap_on_literals command_line text_in number_or
 returns-clause-height c = refl
 
 pub returns-clause-every : goal.returns-clause-every
-unfolding clap_on_literals command_line faults_in text_in number_or
+unfolding clap_on_literals command_line text_in number_or
 returns-clause-every c = refl
 
 pub returns-clause-show : goal.returns-clause-show
-unfolding clap_on_literals command_line faults_in text_in is_true
+unfolding clap_on_literals command_line text_in is_true
 returns-clause-show c = refl

@@ -1,4 +1,4 @@
-use Rattle.relay.proofs.SettingLemmas.{no_faults, options_given, width_is, height_is, every_is, show_is}
+use Rattle.relay.proofs.SettingLemmas.{no_faults, options_given, width_is, height_is, profile_is, every_is, show_is}
 use Rattle.relay.proofs.laws.settings.Goals as goal
 
 pub returns-clause-taken : goal.returns-clause-taken
@@ -9,6 +9,9 @@ returns-clause-width c = width_is
 
 pub returns-clause-height : goal.returns-clause-height
 returns-clause-height c = height_is
+
+pub returns-clause-profile : goal.returns-clause-profile
+returns-clause-profile c = profile_is
 
 pub returns-clause-every : goal.returns-clause-every
 returns-clause-every c = every_is

@@ -1,70 +1,31 @@
-use Rattle.std.proofs.Common.{◌≡◌, ◌∙◌, ℕ, List, [], true, ap, subst, refl, codes, map}
-use Rattle.std.proofs.lemmas.Result.{err_from_is_err_and}
-use Rattle.clap.specs.Words.{App, HasKind, Text, fault_of, found_of, is_simple, is_simple_and_free, matches_of, one_of, one_text}
-use Rattle.clap.specs.declared.parser.matches.ArgMatches.{ArgMatches}
-use Rattle.clap.specs.Simple.{HasMatchesOf}
-use Rattle.clap.specs.declared.error.Error.{Error}
-use Rattle.clap.proofs.WalkLemmas.{one_text-rows}
-use Rattle.relay.specs.CommandLine.{command_line, faults_in, is_true, number_or, text_in}
+use Rattle.std.proofs.Common.{◌≡◌, ap, codes, map}
+use Rattle.std.specs.Prelude.{unwrap_or}
+use Rattle.terminal_steps.specs.declared.profile.Profile.TheVariants.{Plain}
+use Rattle.relay.specs.CommandLine.{asked_in, width_in, height_in, every_in, show_in}
+use Rattle.relay.proofs.ReadLemmas.{fault_of_name, fault_of_parse, flag_read, number_read, terminal_read, words_pass}
 use Rattle.relay.proofs.options.read.Goals as goal
 
-simple_and_free : is_simple_and_free command_line ≡ true
-unfolding command_line
-simple_and_free = refl
+pub returns-in-Err-clause-faults : goal.returns-in-Err-clause-faults
+returns-in-Err-clause-faults g c = fault_of_parse (map g.S.AsStr.text c.args.words.now) c.in-Err.error c.in-Err.ensures.faults
 
-simple : is_simple command_line ≡ true
-unfolding command_line
-simple = refl
+pub returns-in-Ok-profile_in-clause-asked : goal.returns-in-Ok-profile_in-clause-asked
+unfolding asked_in
+returns-in-Ok-profile_in-clause-asked g c =
+    let words = map g.S.AsStr.text c.args.words.now in
+    let matches = c.in-Ok.matches in
+    let rows = c.in-Ok.ensures.rows in
+    let width : width_in words ≡ c.number.result = number_read (codes "width") 80 4096 matches words rows c.number.result c.number.ensures.read in
+    let height : height_in words ≡ c.number-in-Ok-profile_in.result = number_read (codes "height") 24 4096 matches words rows c.number-in-Ok-profile_in.result c.number-in-Ok-profile_in.ensures.read in
+    let every : every_in words ≡ c.number-in-Ok-profile_in-2.result = number_read (codes "every") 4096 4294967295 matches words rows c.number-in-Ok-profile_in-2.result c.number-in-Ok-profile_in-2.ensures.read in
+    let show : show_in words ≡ c.flag.result = flag_read (codes "show") matches words rows c.flag.result c.flag.ensures in
+    let profile = ap (λ o. unwrap_or o Plain) (terminal_read matches words rows _ c.in-Ok-profile_in.ensures.read) in
+    λ i. record { width = width i; height = height i; profile = profile i; every = every i; is_show = show i }
 
--- the number that is read of an option is the one that the words give
-read_is : (name : Text) (default most : ℕ) (app : App) (words : List Text) (m : ArgMatches) → app ≡ command_line → HasMatchesOf app words m
-    → number_or default most (one_text (found_of m) name) ≡ number_or default most (text_in words name)
-unfolding text_in
-read_is name default most app words m is matches =
-    ap (number_or default most) (one_text-rows (found_of m) name
-    ∙ ap (one_of name) ((matches (ap is_simple is ∙ simple)).0 ∙ ap (λ a. matches_of a words) is))
-
--- a parse fails with one of the faults that the words have
-err_faults : (app : App) (words : List Text) (e : Error) → app ≡ command_line
-    → (is_simple_and_free app ≡ true → HasKind (fault_of app words) e) → HasKind (faults_in words) e
-unfolding faults_in
-err_faults app words e is fails = subst (λ a. HasKind (fault_of a words) e) is (fails (ap is_simple_and_free is ∙ simple_and_free))
-
-ok_faults : (app : App) (words : List Text) → app ≡ command_line
-    → (is_simple_and_free app ≡ true → fault_of app words ≡ []) → faults_in words ≡ []
-unfolding faults_in
-ok_faults app words is fails = subst (λ a. fault_of a words ≡ []) is (fails (ap is_simple_and_free is ∙ simple_and_free))
-
-pub returns-in_err-matches-clause-faults : goal.returns-in_err-matches-clause-faults
-returns-in_err-matches-clause-faults g c =
-    let p = err_from_is_err_and c.from_residual-in_err-matches.result c.from_residual-in_err-matches.ensures.1 in
-    let fails = err_faults _ (map g.S.AsStr.text c.args.words.now) c.in_err-matches.field-0.0 c.in_ok-command.ensures c.in_err-matches.ensures.kinds in
-    rw (p.1, p.2) fails
-
-pub returns-clause-width : goal.returns-clause-width
-returns-clause-width g c =
-    c.number.ensures.read
-    ∙ read_is (codes "width") 80 4096 _ (map g.S.AsStr.text c.args.words.now) c.in_ok-matches.matches c.in_ok-command.ensures c.in_ok-matches.ensures.matches
-
-pub returns-clause-height : goal.returns-clause-height
-returns-clause-height g c =
-    c.number-2.ensures.read
-    ∙ read_is (codes "height") 24 4096 _ (map g.S.AsStr.text c.args.words.now) c.in_ok-matches.matches c.in_ok-command.ensures c.in_ok-matches.ensures.matches
-
-pub returns-clause-every : goal.returns-clause-every
-returns-clause-every g c =
-    c.number-3.ensures.read
-    ∙ read_is (codes "every") 4096 4294967295 _ (map g.S.AsStr.text c.args.words.now) c.in_ok-matches.matches c.in_ok-command.ensures c.in_ok-matches.ensures.matches
-
--- and so for a flag
-flag_read : (name : Text) (app : App) (words : List Text) (m : ArgMatches) → app ≡ command_line → HasMatchesOf app words m → is_true (one_text (found_of m) name) ≡ is_true (text_in words name)
-unfolding text_in
-flag_read name app words m is matches =
-    ap is_true (one_text-rows (found_of m) name ∙ ap (one_of name) ((matches (ap is_simple is ∙ simple)).0 ∙ ap (λ a. matches_of a words) is))
-
-pub returns-clause-show : goal.returns-clause-show
-returns-clause-show g c = c.flag.ensures ∙ flag_read (codes "show") _ (map g.S.AsStr.text c.args.words.now) c.in_ok-matches.matches c.in_ok-command.ensures c.in_ok-matches.ensures.matches
+pub returns-in-Ok-profile_in-clause-faults : goal.returns-in-Ok-profile_in-clause-faults
+returns-in-Ok-profile_in-clause-faults g c =
+    words_pass (map g.S.AsStr.text c.args.words.now) c.in-Ok-profile_in.profile c.in-Ok.ensures.faults (terminal_read c.in-Ok.matches _ c.in-Ok.ensures.rows _ c.in-Ok-profile_in.ensures.read)
 
 pub returns-clause-faults : goal.returns-clause-faults
 returns-clause-faults g c =
-    ok_faults _ (map g.S.AsStr.text c.args.words.now) c.in_ok-command.ensures c.in_ok-matches.ensures.kinds
+    fault_of_name (map g.S.AsStr.text c.args.words.now) c.in-Err-profile_in.bad c.in-Ok.ensures.faults
+    (terminal_read c.in-Ok.matches _ c.in-Ok.ensures.rows _ c.in-Err-profile_in.ensures.read) c.in-Err-profile_in.ensures.refused

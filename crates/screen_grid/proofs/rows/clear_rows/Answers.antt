@@ -1,5 +1,6 @@
-use Rattle.std.proofs.Common.{◌<◌, [], refl, length, length-set, ◌∙◌, arith}
-use Rattle.cell_line.specs.LineContent.{line_of}
+use Rattle.std.proofs.Common.{◌<◌, [], ap, refl, length, length-set, ◌∙◌, arith}
+use Rattle.cell_base.specs.Row.{plain_row}
+use Rattle.cell_line.specs.LineContent.{clustered_line_of, line_of}
 use Rattle.screen_grid.specs.Grid.{line_at}
 use Rattle.screen_grid.specs.Rows.{cleared}
 use Rattle.screen_grid.proofs.LineLemmas.{line_changed}
@@ -14,8 +15,8 @@ loop-row-preserved c =
     let inside : row < length first = let t = c.loop-row-test.true in let r = c.requires.within in omega arith in
     let there : row < length now = let m = c.loop-row.invariant.len in omega arith in
     record {
-      len = length-set now row c.clear_line.new.line ∙ c.loop-row.invariant.len;
+      len = length-set now row c.reset.new.line ∙ c.loop-row.invariant.len;
       order = let o = c.loop-row.invariant.order in omega arith;
-      items = line_changed now row c.index_mut.result.now c.clear_line.new.line cleared there c.index_mut.ensures.value c.in_ok-clear_line.ensures
+      items = line_changed now row c.index_mut-line.result.now c.reset.new.line cleared there c.index_mut-line.ensures.value (c.reset.ensures ∙ ap (λ n. clustered_line_of 0 (plain_row n)) c.len-width.ensures.value)
           ∙ changed_more cleared first now c.args.from row (cleared (line_at now row)) (line_of 0 []) c.loop-row.invariant.order inside c.loop-row.invariant.items refl;
     }

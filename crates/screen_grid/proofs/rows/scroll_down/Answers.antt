@@ -15,5 +15,5 @@ returns c =
     let same : length c.rotate_down.new.items ≡ length now = c.rotate_down.auto.items ∙ ap length c.as_mut_slice.ensures.value in
     let new = refilled now c.rotate_down.new.items same in
     let rotated = c.rotate_down.ensures ∙ ap (moved c.args.first c.args.after c.args.count) c.as_mut_slice.ensures.value in
-    c.in_ok-clear_rows.ensures ∙ ap (λ (l : List LineContent). take c.args.first l ++ map cleared (take (c.args.first + c.args.count - c.args.first) (drop c.args.first l)) ++ drop (c.args.first + c.args.count) l) new
+    c.clear_rows.ensures ∙ ap (λ (l : List LineContent). take c.args.first l ++ map cleared (take (c.args.first + c.args.count - c.args.first) (drop c.args.first l)) ++ drop (c.args.first + c.args.count) l) new
     ∙ moved_down cleared now c.rotate_down.new.items c.args.first c.args.after c.args.count c.requires.order c.requires.within c.requires.fits rotated

@@ -15,5 +15,5 @@ returns c =
     let same : length c.rotate_up.new.items ≡ length now = c.rotate_up.auto.items ∙ ap length c.as_mut_slice.ensures.value in
     let new = refilled now c.rotate_up.new.items same in
     let rotated = c.rotate_up.ensures ∙ ap (moved c.args.first c.args.after c.args.count) c.as_mut_slice.ensures.value in
-    c.in_ok-clear_rows.ensures ∙ ap (λ (l : List LineContent). take (c.args.after - c.args.count) l ++ map cleared (take (c.args.after - (c.args.after - c.args.count)) (drop (c.args.after - c.args.count) l)) ++ drop c.args.after l) new
+    c.clear_rows.ensures ∙ ap (λ (l : List LineContent). take (c.args.after - c.args.count) l ++ map cleared (take (c.args.after - (c.args.after - c.args.count)) (drop (c.args.after - c.args.count) l)) ++ drop c.args.after l) new
     ∙ moved_up cleared now c.rotate_up.new.items c.args.first c.args.after c.args.count c.requires.order c.requires.within c.requires.fits rotated

@@ -12,5 +12,6 @@ loop-prefix-preserved c =
     let same = c.requires in
     record {
       within = search rules;
-      whole = swapped_block _ now.at now.prefix now.after _ _ (omega arith) (omega arith) c.swap_blocks.ensures.prefix c.swap_blocks.ensures.after ∙ now.invariant.whole;
+      prefix = swapped_block _ now.at now.prefix now.after _ _ (omega arith) (omega arith) c.swap_blocks.ensures.prefix c.swap_blocks.ensures.after ∙ now.invariant.prefix;
+      after = swapped_block _ now.at now.after now.prefix _ _ (omega arith) (omega arith) c.swap_blocks.ensures.after c.swap_blocks.ensures.prefix ∙ now.invariant.after;
     }

@@ -21,19 +21,19 @@ returns-in_err-terminal-clause-err g c =
 
 pub returns-clause-number : goal.returns-clause-number
 returns-clause-number g c = λ e. new_past (λ w. g.W.Widths.width_of w) c.args.widths c.args.every c.in_ok-terminal.terminal c.args.width c.args.height (g.R.Read.remaining c.args.reader.now.inner)
-    (record { stands = c.in_ok-terminal.ensures.stands; log = c.in_ok-terminal.ensures.log }) c.in_ok-terminal.ensures.widths (c.write_updates.ensures.number e)
+    (record { stands = c.in_ok-terminal.ensures.stands; log = c.in_ok-terminal.ensures.log }) c.in_ok-terminal.ensures.widths (c.run_on.ensures.number e)
 
 pub returns-clause-ok : goal.returns-clause-ok
-returns-clause-ok g c = if_ok c.write_updates.result _ _ (new_all (λ w. g.W.Widths.width_of w) c.args.widths c.args.every c.in_ok-terminal.terminal c.args.width c.args.height (g.R.Read.remaining c.args.reader.now.inner) (g.T.Write.contents c.args.writer.now.inner) (g.T.Write.contents c.write_updates.new.writer.inner)
-    (record { stands = c.in_ok-terminal.ensures.stands; log = c.in_ok-terminal.ensures.log }) c.in_ok-terminal.ensures.widths) c.write_updates.ensures.ok
+returns-clause-ok g c = if_ok c.run_on.result _ _ (new_all (λ w. g.W.Widths.width_of w) c.args.widths c.args.every c.in_ok-terminal.terminal c.args.width c.args.height (g.R.Read.remaining c.args.reader.now.inner) (g.T.Write.contents c.args.writer.now.inner) (g.T.Write.contents c.run_on.new.writer.inner)
+    (record { stands = c.in_ok-terminal.ensures.stands; log = c.in_ok-terminal.ensures.log }) c.in_ok-terminal.ensures.widths) c.run_on.ensures.ok
 
 pub returns-clause-chunks : goal.returns-clause-chunks
-returns-clause-chunks g c = λ e. new_chunks (λ w. g.W.Widths.width_of w) c.args.widths c.args.every c.in_ok-terminal.terminal c.args.width c.args.height (g.R.Read.remaining c.args.reader.now.inner) (g.R.Read.remaining c.write_updates.new.reader.inner) (g.T.Write.contents c.args.writer.now.inner) (g.T.Write.contents c.write_updates.new.writer.inner)
-    (record { stands = c.in_ok-terminal.ensures.stands; log = c.in_ok-terminal.ensures.log }) c.in_ok-terminal.ensures.widths (c.write_updates.ensures.chunks e)
+returns-clause-chunks g c = λ e. new_chunks (λ w. g.W.Widths.width_of w) c.args.widths c.args.every c.in_ok-terminal.terminal c.args.width c.args.height (g.R.Read.remaining c.args.reader.now.inner) (g.R.Read.remaining c.run_on.new.reader.inner) (g.T.Write.contents c.args.writer.now.inner) (g.T.Write.contents c.run_on.new.writer.inner)
+    (record { stands = c.in_ok-terminal.ensures.stands; log = c.in_ok-terminal.ensures.log }) c.in_ok-terminal.ensures.widths (c.run_on.ensures.chunks e)
 
 pub returns-clause-err : goal.returns-clause-err
-returns-clause-err g c = if_err c.write_updates.result _ _ (new_part (λ w. g.W.Widths.width_of w) c.args.widths c.args.every c.in_ok-terminal.terminal c.args.width c.args.height (g.R.Read.remaining c.args.reader.now.inner) (g.R.Read.remaining c.write_updates.new.reader.inner) (g.T.Write.contents c.args.writer.now.inner) (g.T.Write.contents c.write_updates.new.writer.inner)
-    (record { stands = c.in_ok-terminal.ensures.stands; log = c.in_ok-terminal.ensures.log }) c.in_ok-terminal.ensures.widths) c.write_updates.ensures.err
+returns-clause-err g c = if_err c.run_on.result _ _ (new_part (λ w. g.W.Widths.width_of w) c.args.widths c.args.every c.in_ok-terminal.terminal c.args.width c.args.height (g.R.Read.remaining c.args.reader.now.inner) (g.R.Read.remaining c.run_on.new.reader.inner) (g.T.Write.contents c.args.writer.now.inner) (g.T.Write.contents c.run_on.new.writer.inner)
+    (record { stands = c.in_ok-terminal.ensures.stands; log = c.in_ok-terminal.ensures.log }) c.in_ok-terminal.ensures.widths) c.run_on.ensures.err
 
 pub returns-in_err-terminal-clause-memory : goal.returns-in_err-terminal-clause-memory
 returns-in_err-terminal-clause-memory g c = λ e.
@@ -43,4 +43,4 @@ pub returns-clause-memory : goal.returns-clause-memory
 returns-clause-memory g c = λ e.
     refused_new (λ w. g.W.Widths.width_of w) c.args.widths c.args.width c.args.height c.in_ok-terminal.terminal
     (record { stands = c.in_ok-terminal.ensures.stands; log = c.in_ok-terminal.ensures.log }) c.in_ok-terminal.ensures.widths
-    (all_looks c.args.every) (g.R.Read.remaining c.args.reader.now.inner) (g.R.Read.remaining c.write_updates.new.reader.inner) (c.write_updates.ensures.memory e)
+    (all_looks c.args.every) (g.R.Read.remaining c.args.reader.now.inner) (g.R.Read.remaining c.run_on.new.reader.inner) (c.run_on.ensures.memory e)

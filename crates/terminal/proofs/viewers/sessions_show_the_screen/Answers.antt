@@ -5,10 +5,9 @@ use Rattle.terminal.proofs.viewers.sessions_show_the_screen.Goals as goal
 pub returns-clause-answers : goal.returns-clause-answers
 returns-clause-answers g c = λ view count turns at answer sound stands lawful_turns.
     c.sessions_show_the_screen.ensures.answers (g.W.Widths.width_of c.args.terminal.now.surface.grid.widths) (standing_of c.args.terminal.now view) count turns at answer
-    (g.met.W.Widths.space_is_one c.args.terminal.now.surface.grid.widths)
     (can_answer (λ w. g.W.Widths.width_of w) c.args.terminal.now
     (at_view (λ w. g.W.Widths.width_of w) c.args.terminal.now
-    (sound_of (λ w. g.W.Widths.width_of w) c.args.terminal.now c.surface.result.now c.surface.ensures (c.stands.ensures.stands sound) (c.stands.ensures.spelled sound) c.surfaces_stay_lawful.ensures.cells)
+    (sound_of (λ w. g.W.Widths.width_of w) c.args.terminal.now (c.stands.ensures.stands sound) (c.stands.ensures.spelled sound))
     view stands)
     (counted_of (λ w. g.W.Widths.width_of w) c.args.terminal.now c.surface.result.now c.surface.ensures c.surfaces_stay_lawful.ensures.counted))
     lawful_turns
@@ -16,10 +15,9 @@ returns-clause-answers g c = λ view count turns at answer sound stands lawful_t
 pub returns-clause-rounds : goal.returns-clause-rounds
 returns-clause-rounds g c = λ view count turns answers sound stands lawful_turns.
     c.sessions_show_the_screen.ensures.rounds (g.W.Widths.width_of c.args.terminal.now.surface.grid.widths) (standing_of c.args.terminal.now view) count turns answers
-    (g.met.W.Widths.space_is_one c.args.terminal.now.surface.grid.widths)
     (can_answer (λ w. g.W.Widths.width_of w) c.args.terminal.now
     (at_view (λ w. g.W.Widths.width_of w) c.args.terminal.now
-    (sound_of (λ w. g.W.Widths.width_of w) c.args.terminal.now c.surface.result.now c.surface.ensures (c.stands.ensures.stands sound) (c.stands.ensures.spelled sound) c.surfaces_stay_lawful.ensures.cells)
+    (sound_of (λ w. g.W.Widths.width_of w) c.args.terminal.now (c.stands.ensures.stands sound) (c.stands.ensures.spelled sound))
     view stands)
     (counted_of (λ w. g.W.Widths.width_of w) c.args.terminal.now c.surface.result.now c.surface.ensures c.surfaces_stay_lawful.ensures.counted))
     lawful_turns

@@ -1,8 +1,12 @@
+use Rattle.std.specs.Prelude.{None}
 use Rattle.terminal_table.proofs.StateLemmas.{new_is, step_is, run_is, size_is}
 use Rattle.terminal_table.proofs.laws.states_stay_lawful.Goals as goal
 
 pub returns-clause-new : goal.returns-clause-new
-returns-clause-new c = new_is
+returns-clause-new c = λ width_of. new_is width_of None
+
+pub returns-clause-modes : goal.returns-clause-modes
+returns-clause-modes c = new_is
 
 pub returns-clause-steps : goal.returns-clause-steps
 returns-clause-steps c = step_is

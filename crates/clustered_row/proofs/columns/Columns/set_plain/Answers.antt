@@ -1,23 +1,39 @@
-use Rattle.std.proofs.Common.{◌∙◌, ap, sym, length, replicate, List}
-use Rattle.std.specs.List.{list_all}
-use Rattle.cell_base.specs.Row.{set_columns}
-use Rattle.clustered_row.specs.declared.cell_size.CellSize.{CellSize}
-use Rattle.clustered_row.specs.Faces.{row_of}
-use Rattle.clustered_row.specs.Sizes.{is_plain}
-use Rattle.clustered_row.proofs.ColumnLemmas.{plain_are}
+use Rattle.std.proofs.Common.{◌∙◌, ◌+◌, refl, ap, sym, length, replicate, arith, List}
+use Rattle.cell_base.specs.Row.{Column, set_columns}
+use Rattle.clustered_row.specs.Faces.{plain_faces, row_of}
+use Rattle.clustered_row.specs.TextsShown.{faces}
+use Rattle.clustered_row.proofs.ColumnLemmas.{counted, length-plain, set_makes, whole_plain}
 use Rattle.clustered_row.proofs.columns.Columns.set_plain.Goals as goal
 
-pub set-requires-clause-sizes : goal.set-requires-clause-sizes
-set-requires-clause-sizes c =
-    let plain = plain_are c.args.text.now c.deref.result.now c.requires.printable (ap (λ (s : List CellSize). list_all is_plain s) c.deref.ensures.value ∙ c.in_ok-fill_plain.ensures.plain) (ap length c.deref.ensures.value ∙ c.in_ok-fill_plain.ensures.count) in
-    record { parts = plain.parts; bytes = plain.bytes }
+pub set-requires-clause-within : goal.set-requires-clause-within
+set-requires-clause-within c =
+    let count = counted (faces c.self.inside.texts) c.self.inside.runs c.args.self.now c.self.invariant.even c.self.view_is in
+    let within = c.requires.within in
+    omega (arith, count, within)
 
-pub set-requires-clause-count : goal.set-requires-clause-count
-set-requires-clause-count c =
-    sym (plain_are c.args.text.now c.deref.result.now c.requires.printable (ap (λ (s : List CellSize). list_all is_plain s) c.deref.ensures.value ∙ c.in_ok-fill_plain.ensures.plain) (ap length c.deref.ensures.value ∙ c.in_ok-fill_plain.ensures.count)).columns
+pub set_plain-requires-clause-within : goal.set_plain-requires-clause-within
+set_plain-requires-clause-within c =
+    let even = c.self.invariant.even in
+    let count = counted (faces c.self.inside.texts) c.self.inside.runs c.args.self.now even c.self.view_is in
+    let within = c.requires.within in
+    omega (arith, even, count, within)
+
+pub invariant_of-self-2 : goal.invariant_of-self-2
+invariant_of-self-2 c =
+    let text = c.args.text.now in
+    let even = c.self.invariant.even in
+    let count = counted (faces c.self.inside.texts) c.self.inside.runs c.args.self.now even c.self.view_is in
+    let within = c.requires.within in
+    let m = set_makes (faces c.self.inside.texts) (faces c.set_plain.new.self) c.self.inside.runs c.set.new.self even c.self.invariant.whole (plain_faces text) c.args.at (c.args.at + length text) (length text) c.args.attrs.now
+    c.set_plain.ensures.faces c.in_ok-set.ensures.done refl (sym (length-plain text)) (omega (arith, even, count, within)) (whole_plain text c.args.attrs.now) in
+    record { even = m.even; whole = m.whole }
 
 pub returns-clause-done : goal.returns-clause-done
 returns-clause-done c =
-    let kept = c.in_ok-overwrite.ensures.not_done c.if-branch.false in
-    let plain = plain_are c.args.text.now c.deref.result.now c.requires.printable (ap (λ (s : List CellSize). list_all is_plain s) c.deref.ensures.value ∙ c.in_ok-fill_plain.ensures.plain) (ap length c.deref.ensures.value ∙ c.in_ok-fill_plain.ensures.count) in
-    c.in_ok-set.ensures.done ∙ (λ i. set_columns (kept i) c.args.at (row_of (plain.shown i) (replicate (length c.args.text.now) c.args.attrs.now)))
+    let text = c.args.text.now in
+    let even = c.self.invariant.even in
+    let count = counted (faces c.self.inside.texts) c.self.inside.runs c.args.self.now even c.self.view_is in
+    let within = c.requires.within in
+    (set_makes (faces c.self.inside.texts) (faces c.set_plain.new.self) c.self.inside.runs c.set.new.self even c.self.invariant.whole (plain_faces text) c.args.at (c.args.at + length text) (length text) c.args.attrs.now
+    c.set_plain.ensures.faces c.in_ok-set.ensures.done refl (sym (length-plain text)) (omega (arith, even, count, within)) (whole_plain text c.args.attrs.now)).is
+    ∙ ap (λ (r : List Column). set_columns r c.args.at (row_of (plain_faces text) (replicate (length text) c.args.attrs.now))) c.self.view_is

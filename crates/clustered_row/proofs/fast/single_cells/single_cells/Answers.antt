@@ -1,7 +1,8 @@
 use Rattle.std.proofs.Common.{◌∙◌, ◌+◌, ap, sym, subst, arith, List}
-use Rattle.text_clusters.specs.Independent.{begins_independent}
 use Rattle.clustered_row.specs.declared.cell_size.CellSize.{CellSize}
+use Rattle.clustered_row.specs.SingleText.{begins_alone}
 use Rattle.clustered_row.specs.Walk.{IsWalked}
+use Rattle.clustered_row.proofs.AloneLemmas.{independent_alone}
 use Rattle.clustered_row.proofs.WalkLemmas.{single_some, walk_more, walk_none}
 use Rattle.clustered_row.proofs.fast.single_cells.single_cells.Goals as goal
 
@@ -35,7 +36,7 @@ loop-next-preserved g c =
       walked = subst (λ (s : List CellSize). IsWalked f c.args.room c.args.text.now s (c.loop-next.columns + width) c.loop-next.rest.now) (sym c.in_ok-push.ensures.items)
           (subst (IsWalked f c.args.room c.args.text.now _ (c.loop-next.columns + width)) (sym rest)
           (walk_more f c.args.room c.args.text.now c.loop-next.sizes.items c.loop-next.columns c.loop-next.left.now n width c.size_of.result walked c.loop-next.invariant.first c.loop-next.invariant.text
-          c.size_of.ensures.len c.size_of.ensures.wide (ap begins_independent (sym rest) ∙ c.in-Some-first_single.ensures.independent) (omega (arith, within, c.if-room-columns.false))));
+          c.size_of.ensures.len c.size_of.ensures.wide (ap begins_alone (sym rest) ∙ c.in-Some-first_single.ensures.alone) (omega (arith, within, c.if-room-columns.false))));
       text = c.loop-next.invariant.after;
       after = c.after-rest-in-Some-first_single.utf8;
       rest = c.after-rest-in-Some-first_single.ensures;
@@ -56,4 +57,4 @@ returns g c =
     subst (λ (s : List CellSize). IsWalked f c.args.room c.args.text.now s (c.loop-next.columns + width) c.loop-next.rest.now) (sym c.in_ok-push-2.ensures.items)
     (subst (IsWalked f c.args.room c.args.text.now _ (c.loop-next.columns + width)) (sym rest)
     (walk_more f c.args.room c.args.text.now c.loop-next.sizes.items c.loop-next.columns c.loop-next.left.now n width c.size_of-2.result walked c.loop-next.invariant.first c.loop-next.invariant.text
-    c.size_of-2.ensures.len c.size_of-2.ensures.wide (ap begins_independent (sym rest) ∙ sym c.begins_independent.ensures ∙ c.if-not-begins_independent.false) (omega (arith, within, c.if-room-columns-2.false))))
+    c.size_of-2.ensures.len c.size_of-2.ensures.wide (ap begins_alone (sym rest) ∙ independent_alone c.loop-next.rest.now (sym c.begins_independent.ensures ∙ c.if-not-begins_independent.false)) (omega (arith, within, c.if-room-columns-2.false))))

@@ -14,19 +14,19 @@ loop-at-preserved c =
     let order = c.loop-at.invariant.order in
     let within = c.requires.within in
     let more = c.loop-at-test.true in
-    let set : c.set_plain.new.self ≡ set_columns row at (replicate 64 (blank a)) = c.in_ok-set_plain.ensures.done ∙ spaces_set row at 64 c.spaces.result.now a c.spaces.ensures in
+    let set : c.set_plain_elsewhere.new.self ≡ set_columns row at (replicate 64 (blank a)) = c.in_ok-set_plain_elsewhere.ensures.done ∙ spaces_set row at 64 c.spaces.result.now a c.spaces.ensures in
     let left : 64 + (c.args.end - (at + 64)) ≡ c.args.end - at = omega (arith, order, more) in
     record {
-      len = c.in_ok-set_plain.ensures.len ∙ len;
+      len = c.in_ok-set_plain_elsewhere.ensures.len ∙ len;
       order = omega (arith, more);
-      leads = blanks_on row c.set_plain.new.self at 64 (c.args.end - (at + 64)) a set (omega (arith, len, within, more))
+      leads = blanks_on row c.set_plain_elsewhere.new.self at 64 (c.args.end - (at + 64)) a set (omega (arith, len, within, more))
           ∙ ap (λ n. set_columns row at (replicate n (blank a))) left ∙ c.loop-at.invariant.leads;
     }
 
-pub set_plain-requires-2-clause-printable : goal.set_plain-requires-2-clause-printable
-set_plain-requires-2-clause-printable c = ap (list_all is_printable) c.spaces-2.ensures ∙ spaces_printable (c.args.end - c.loop-at.at)
+pub set_plain_elsewhere-requires-2-clause-printable : goal.set_plain_elsewhere-requires-2-clause-printable
+set_plain_elsewhere-requires-2-clause-printable c = ap (list_all is_printable) c.spaces-2.ensures ∙ spaces_printable (c.args.end - c.loop-at.at)
 
 pub returns-clause-done : goal.returns-clause-done
 returns-clause-done c =
-    c.in_ok-set_plain-2.ensures.done ∙ spaces_set c.loop-at.self c.loop-at.at (c.args.end - c.loop-at.at) c.spaces-2.result.now c.args.attrs.now c.spaces-2.ensures
+    c.in_ok-set_plain_elsewhere-2.ensures.done ∙ spaces_set c.loop-at.self c.loop-at.at (c.args.end - c.loop-at.at) c.spaces-2.result.now c.args.attrs.now c.spaces-2.ensures
     ∙ c.loop-at.invariant.leads

@@ -3,8 +3,8 @@ use Rattle.escape_stream.specs.PiecesView.{lender_of, open_pieces, IsGoing}
 use Rattle.escape_stream.specs.Walking.{Reaches}
 use Rattle.escape_stream.proofs.pieces.Reading.walk.Given as goal
 
-abbrev pub invariant-loop-found : goal.invariant-loop-found
-invariant-loop-found g l = record {
+abbrev pub invariant-loop-halted : goal.invariant-loop-halted
+invariant-loop-halted g l = record {
   going : IsGoing l.self;
   same : lender_of l.self ≡ lender_of l.fn.self;
   stage : l.self.stage ≡ l.fn.self.stage;
@@ -12,5 +12,5 @@ invariant-loop-found g l = record {
   reached : Reaches g.P.Perform.does l.fn.self l.fn.performer l.self l.performer;
 }
 
-abbrev pub decreases-loop-found : goal.decreases-loop-found
-decreases-loop-found g l = length (open_pieces 0 l.self)
+abbrev pub decreases-loop-halted : goal.decreases-loop-halted
+decreases-loop-halted g l = length (open_pieces 0 l.self)

@@ -18,6 +18,6 @@ returns g c =
     let m : c.min.result ≡ min c.args.size (length old.lines - from) = c.min.ensures ∙ (λ i. min c.args.size (tall i - a i)) in
     let n : c.min-2.result ≡ min c.args.count (from + min c.args.size (length old.lines - from) - from) = c.min-2.ensures ∙ (λ i. min c.args.count (a i + m i - a i)) in
     let moved : ℕ → ℕ → ℕ → List LineContent = λ x y z. take x old.lines ++ rows_up z (take (x + y - x) (drop x old.lines)) ++ drop (x + y) old.lines in
-    let lines = c.in_ok-scroll_up.ensures ∙ (λ i. moved (a i) (m i) (n i)) ∙ region_cut rows_up old.lines c.args.first c.args.size c.args.count in
+    let lines = c.scroll_up.ensures ∙ (λ i. moved (a i) (m i) (n i)) ∙ region_cut rows_up old.lines c.args.first c.args.size c.args.count in
     subst (λ (x : Grid g.row.W.Denot). Shows x (record old { lines = c.scroll_up.new.rows }) (effect (g.W.Widths.width_of x.widths) (display_of x) (ScrollRegionUp c.args.first c.args.size c.args.count))) c.self.view_is
     (scrolled_up_shown (g.W.Widths.width_of old.widths) old c.scroll_up.new.rows c.args.first c.args.size c.args.count (subst IsDrawn (sym c.self.view_is) c.requires) lines)

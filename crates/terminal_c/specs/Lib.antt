@@ -1,0 +1,9 @@
+pub mod Calls
+pub mod Codes
+pub mod Formats
+pub mod Handles
+pub mod Owned
+pub mod States
+pub mod Told
+pub mod ToldCells
+pub mod ToldView

@@ -1,0 +1,4 @@
+pub mod ColumnLemmas
+pub mod RowLemmas
+pub mod BlockLemmas
+pub mod FollowLemmas

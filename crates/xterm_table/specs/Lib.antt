@@ -1,0 +1,4 @@
+pub mod Follows
+pub mod RowEdits
+pub mod RowMoves
+pub mod Displays

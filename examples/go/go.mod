@@ -1,0 +1,3 @@
+module rilqamyn
+
+go 1.19
