@@ -53,8 +53,8 @@ next_line_request region screen =
 abbrev pub reverse_index_request : Region → Screen → Request  -- RI
 reverse_index_request region screen =
     if screen.row == region.top then
-      (if not (is_pending screen) && scrolls_plainly region screen then Table table.ReverseIndex
-      else Xterm (own.ReverseIndex region))
+    (if not (is_pending screen) && scrolls_plainly region screen then Table table.ReverseIndex
+    else Xterm (own.ReverseIndex region))
     else Table (table.Moves (table.Up 1))
 
 -- ---- scrolls, and lines
@@ -90,7 +90,7 @@ margins_request screen top bottom =
     let last = min bottom (height screen) in
     if nat_lt top last
     then Some (Sets (record { region = Some (record { top = top - 1; bottom = last - 1 }) })
-      (table.Moves (table.ToPosition 1 1)))
+    (table.Moves (table.ToPosition 1 1)))
     else None
 
 -- ---- all actions
