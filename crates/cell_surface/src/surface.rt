@@ -152,6 +152,13 @@ impl<W: Widths + Drop> Surface<W> {
         self.is_failed
     }
 
+    /// The surface has failed from now on: for who keeps more beside it, and was refused memory for that.
+    pub fn fail(&mut self)
+        ensures { self.new ≡ record self.old { is_failed = true } }
+    {
+        self.is_failed = true;
+    }
+
     /// Drops the changes before the number `seq` from the log; none where `seq` is above the current number.
     pub fn flush_changes_older_than(&mut self, seq: SequenceNo)
         ensures flushed { self.old.is_failed ≡ false

@@ -20,6 +20,7 @@ use Rattle.terminal.specs.Terminal.{Terminal}
 use Rattle.terminal_steps.specs.Events as steps
 use Rattle.terminal_steps.specs.Events.{IsReady, Had, view_of}
 use Rattle.terminal_steps.specs.Memory.{TakesMemory}
+use Rattle.terminal_steps.specs.ProfileView.{kept_modes}
 use Rattle.terminal_steps.specs.Items.{item_event, item_events, log_after_items, Leads, ParserNeedsMemory, SomeNeedsMemory}
 use Rattle.terminal_steps.specs.declared.state.TerminalState.{TerminalState}
 use Rattle.terminal_steps.proofs.SpellLemmas.{call_state, call_held, call_logged, call_events, none_newly}
@@ -61,7 +62,7 @@ pieced bytes f view = record {
 -- ---- a terminal by its parts
 
 abbrev pub with_parts : {W : Type 0} → TerminalState W → Held → Terminal W
-with_parts s unfinished = record { surface = s.surface; saved = s.saved; replies = s.replies.items; modes = s.modes; run = string_bytes s.held; unfinished = unfinished; is_failed = false }
+with_parts s unfinished = record { surface = s.surface; saved = s.saved; replies = s.replies.items; modes = kept_modes s.modes; run = string_bytes s.held; unfinished = unfinished; is_failed = false }
 
 module _ {W : Type 0} (width_of : W → List ℕ → ℕ) where
   abbrev of : Terminal W → List ℕ → ℕ

@@ -14,7 +14,7 @@ use Rattle.terminal_table.specs.Changes.{run_change}
 use Rattle.terminal_table.specs.History.{Act}
 use Rattle.terminal_table.specs.Logged.{event_logged, events_logged, run_logged}
 use Rattle.terminal_table.specs.Meaning.{View, settled, event_done}
-use Rattle.terminal_table.specs.Request.{Request, Table, Xterm, Sets}
+use Rattle.terminal_table.specs.Request.{Request, Table, Xterm, Sets, Switches, Replies}
 use Rattle.terminal_table.specs.Requests.{acted, acted_changes, request_changes, request_done, request_of}
 use Rattle.terminal_table.specs.Steps.{run_step}
 use Rattle.terminal_viewers.specs.Updates.{Standing}
@@ -53,7 +53,9 @@ module _ (f : List ℕ → ℕ) where
       by_request None = record { screen = refl; saved = refl; modes = refl; stream = refl; held = refl }
       by_request (Some (Table function)) = record { screen = refl; saved = refl; modes = refl; stream = refl; held = refl }
       by_request (Some (Xterm function)) = record { screen = refl; saved = refl; modes = refl; stream = refl; held = refl }
-      by_request (Some (Sets modes function)) = record { screen = refl; saved = refl; modes = refl; stream = refl; held = refl }
+      by_request (Some (Sets setting function)) = record { screen = refl; saved = refl; modes = refl; stream = refl; held = refl }
+      by_request (Some (Switches function)) = record { screen = refl; saved = refl; modes = refl; stream = refl; held = refl }
+      by_request (Some (Replies text)) = record { screen = refl; saved = refl; modes = refl; stream = refl; held = refl }
 
   changes_alike : (action : StreamAction) (a b : View) → AreAlike a b → acted_changes action a.state ≡ acted_changes action b.state
   changes_alike action a b h = ap (λ x. acted_changes action x.state) (same_as a b h) ∙ by_request (request_of b.state.modes b.state.screen action)
@@ -62,7 +64,9 @@ module _ (f : List ℕ → ℕ) where
       by_request None = refl
       by_request (Some (Table function)) = refl
       by_request (Some (Xterm function)) = refl
-      by_request (Some (Sets modes function)) = refl
+      by_request (Some (Sets setting function)) = refl
+      by_request (Some (Switches function)) = refl
+      by_request (Some (Replies text)) = refl
 
   done_alike : (a b : View) (action : StreamAction) → AreAlike a b → AreAlike (event_done f a (Act action)) (event_done f b (Act action))
   done_alike a b action h = by_test (is_print action) refl

@@ -16,16 +16,17 @@ use Rattle.screen_effects.specs.Resize.{resized_row, resized_screen}
 use Rattle.terminal.specs.Headline.{StandsAt, GoesBy}
 use Rattle.terminal.specs.Terminal.{Terminal, IsSpelled}
 use Rattle.terminal.proofs.GoLemmas.{with_parts, stands_somewhere, looked, resized, forgot, went, fed, events_are as events_are_lawful}
-use Rattle.terminal_render.specs.Spelling.{HaveEncodings, IsSpelledSaved, IsSpelledScreen, IsSpelledText, IsSpelledView}
+use Rattle.terminal_render.specs.Spelling.{AreSpelledModes, HaveEncodings, IsSpelledSaved, IsSpelledScreen, IsSpelledText, IsSpelledView}
 use Rattle.terminal_render.proofs.LogLemmas.{history_keeps}
 use Rattle.terminal_render.proofs.StreamLemmas.{history_spelled}
-use Rattle.terminal_render.proofs.ViewLemmas.{HasSize, acted_size, new_spelled_with, settled_size}
+use Rattle.terminal_table.proofs.StateLemmas.{HasSize}
+use Rattle.terminal_render.proofs.ViewLemmas.{acted_size, new_spelled_with, settled_size}
 use Rattle.terminal_steps.specs.Events.{IsReady, Had}
 use Rattle.terminal_steps.specs.Items.{Leads, item_events}
 use Rattle.terminal_steps.specs.declared.state.TerminalState.{TerminalState}
 use Rattle.terminal_table.specs.History.{History, Piece, Look, Resize, Forget, Event, Act, Looked, Resized, Forgot, events}
 use Rattle.terminal_table.specs.Meaning.{View, new_view_with, settled, event_done, after}
-use Rattle.terminal_table.specs.Modes.{Modes}
+use Rattle.terminal_table.specs.Modes.{AreNew, Modes}
 use Rattle.terminal_table.specs.Requests.{acted}
 use Rattle.terminal_table.specs.Turns.{IsView, AreEvents, AreSizes}
 use Rattle.terminal_table.proofs.EventLemmas.{event_is, settled_is}
@@ -115,7 +116,7 @@ module _ {W : Type 0} (width_of : W → List ℕ → ℕ) where
   -- where a terminal's changes have encodings, so have the parts of a view at which it stands
   view_spelled : (t : Terminal W) (view : View) → StandsAt t view → IsSpelled t → IsSpelledView view
   view_spelled t view st p = subst IsSpelledView (λ i. record { state = st.state i; stream = view.stream; held = st.run i }) (record {
-    state = record { screen = p.surface.spelled; saved = p.saved };
+    state = record { screen = p.surface.spelled; saved = p.saved; modes = p.modes };
     held = p.run;
   })
 
@@ -146,15 +147,16 @@ module _ {W : Type 0} (width_of : W → List ℕ → ℕ) where
               (subst (λ (l : Sized). HaveEncodings next.state.screen.width (height next.state.screen) l.log.entries) (sym (g.log view st)) kept);
         };
         saved = subst (λ s. IsSpelledSaved s) (ap (λ s. s.saved) (sym there.state)) spelled.state.saved;
+        modes = subst AreSpelledModes (ap (λ s. s.modes) (sym there.state)) spelled.state.modes;
         run = subst IsSpelledText (sym there.run) spelled.held;
       }
 
   -- ---- by parts
 
   -- a new terminal
-  pub spelled_first : (t : Terminal W) (modes : Option Modes) (width rows : ℕ) → width < 2 ^ 32 → rows < 2 ^ 32 → StandsAt t (new_view_with modes width rows) → t.surface.log.log.entries ≡ [] → (shown_by t.surface).shape ≡ None → t.surface.is_failed ≡ false → IsSpelled t
-  spelled_first t modes width rows wide tall st none shape stays =
-      let first = new_spelled_with modes width rows in
+  pub spelled_first : (t : Terminal W) (modes : Option Modes) (width rows : ℕ) → AreNew modes → width < 2 ^ 32 → rows < 2 ^ 32 → StandsAt t (new_view_with modes width rows) → t.surface.log.log.entries ≡ [] → (shown_by t.surface).shape ≡ None → t.surface.is_failed ≡ false → IsSpelled t
+  spelled_first t modes width rows new wide tall st none shape stays =
+      let first = new_spelled_with modes width rows new in
       let here = at_view t (new_view_with modes width rows) st in
       record {
         surface = record {
@@ -166,6 +168,7 @@ module _ {W : Type 0} (width_of : W → List ℕ → ℕ) where
           kept = subst (HaveEncodings (shown_by t.surface).screen.width (height (shown_by t.surface).screen)) (sym none) tt;
         };
         saved = subst IsSpelledSaved (ap (λ s. s.saved) (sym st.state)) tt;
+        modes = subst AreSpelledModes (ap (λ s. s.modes) (sym st.state)) first.state.modes;
         run = subst IsSpelledText (sym st.run) first.held;
       }
 

@@ -38,7 +38,8 @@ use Rattle.terminal_render.specs.Rendering.{rendering}
 use Rattle.terminal_viewers.specs.Showing.{CanAnswer}
 use Rattle.terminal_render.specs.EncodedSizes.{AreShort, all_encoded_size, prints_in, runs_in}
 use Rattle.terminal_render.specs.Spelling.{HaveEncodings, IsSpelledScreen, IsSpelledState, IsSpelledText}
-use Rattle.terminal_render.proofs.ViewLemmas.{display_on_is, replay_size}
+use Rattle.terminal_table.proofs.StateLemmas.{replay_size}
+use Rattle.terminal_render.proofs.ViewLemmas.{display_on_is}
 use Rattle.terminal_table.specs.Alone as alone
 use Rattle.terminal_table.specs.History.{History, Piece, Look, Looked, Forget}
 use Rattle.terminal_table.specs.Logged.{event_logged}
@@ -211,7 +212,7 @@ module _ {W : Type 0} (width_of : W → List ℕ → ℕ) where
     lawful = s.lawful;
     wide = subst (λ (x : State). x.screen.width < 2 ^ 32) s.stands.state s.spelled.surface.wide;
     tall = subst (λ (x : State). height x.screen < 2 ^ 32) s.stands.state s.spelled.surface.tall;
-    spelled = record { state = subst IsSpelledState s.stands.state (record { screen = s.spelled.surface.spelled; saved = s.spelled.saved }); held = subst IsSpelledText s.stands.run s.spelled.run };
+    spelled = record { state = subst IsSpelledState s.stands.state (record { screen = s.spelled.surface.spelled; saved = s.spelled.saved; modes = s.spelled.modes }); held = subst IsSpelledText s.stands.run s.spelled.run };
     encodings = subst (λ (x : State). HaveEncodings x.screen.width (height x.screen) t.surface.log.log.entries) s.stands.state s.spelled.surface.kept;
     counted = counted;
   }
@@ -253,7 +254,7 @@ module _ {W : Type 0} (width_of : W → List ℕ → ℕ) where
       viewer = new_view size.width (height size)
 
       new : IsState (of one) viewer.state
-      new = let h = (state_is one s).lawful in new_is (of one) None size.width (height size) s.lawful.lawful.narrow h.wide_enough (omega (arith, h.row_in))
+      new = let h = (state_is one s).lawful in new_is (of one) None size.width (height size) tt s.lawful.lawful.narrow h.wide_enough (omega (arith, h.row_in))
 
       seen : (t : Terminal W) → IsSound width_of t → of t ≡ of one → size.width ≡ (state_in t).screen.width → height size ≡ height (state_in t).screen
           → (after (of one) viewer (Piece (update_for t 0) ∷ [])).state ≡ record viewer.state { screen = (state_in t).screen }

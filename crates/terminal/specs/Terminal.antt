@@ -2,10 +2,11 @@
 use Rattle.std.specs.Prelude.{◌≡◌, ℕ, Bool, List, [], Option}
 use Rattle.cell_surface.specs.Surface.{Surface}
 use Rattle.escape_framing.specs.Held.{Held, nothing_held}
-use Rattle.terminal_render.specs.Spelling.{IsSpelledSaved, IsSpelledText}
+use Rattle.terminal_render.specs.Spelling.{AreSpelledModes, IsSpelledSaved, IsSpelledText}
 use Rattle.terminal_steps.specs.TerminalStates.{state_of}
 use Rattle.terminal_table.specs.Modes.{Modes}
-use Rattle.terminal_table.specs.State.{SavedCursor, State}
+use Rattle.terminal_table.specs.Modes.{SavedCursor}
+use Rattle.terminal_table.specs.State.{State}
 use Rattle.terminal_viewers.specs.Encodable.{CanBeEncoded}
 
 -- the surface, the saved cursor, the replies that were not yet taken, the modes of the profile xterm (none on a plain
@@ -23,11 +24,12 @@ pub record Terminal (W : Type 0) : Type 0 where
 abbrev pub state_in : {W : Type 0} → Terminal W → State
 state_in t = state_of t.surface t.saved t.replies t.modes
 
--- A terminal's screen, the saved pen, the held run and the changes that its log keeps have an encoding, so that viewers
--- can get each change.
+-- A terminal's screens, the saved pens, the held run and the changes that its log keeps have an encoding, so that
+-- viewers can get each change.
 pub record IsSpelled {W : Type 0} (t : Terminal W) : Type 0 where
   pub surface : CanBeEncoded t.surface
   pub saved : IsSpelledSaved t.saved
+  pub modes : AreSpelledModes t.modes
   pub run : IsSpelledText t.run
 
 -- nothing of the stream is unfinished, and no run is held

@@ -5,13 +5,14 @@ use Rattle.escape_framing.specs.Framed.{IsReached}
 use Rattle.terminal.specs.Terminal.{Terminal, IsSpelled}
 use Rattle.terminal.specs.declared.terminal.Terminal.TheInside.{Inside}
 use Rattle.terminal_steps.specs.Events.{IsReady}
+use Rattle.terminal_steps.specs.ProfileView.{kept_modes}
 
 abbrev pub terminal_of : {W : Type 0} → Inside W → Terminal W
 terminal_of i = record {
   surface = i.state.surface;
   saved = i.state.saved;
   replies = i.state.replies.items;
-  modes = i.state.modes;
+  modes = kept_modes i.state.modes;
   run = string_bytes i.state.held;
   unfinished = i.parser.held;
   is_failed = i.is_failed;

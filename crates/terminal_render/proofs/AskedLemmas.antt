@@ -1,6 +1,6 @@
 -- What a terminal is asked for is spelled where the table's function is: what xterm itself has for an action holds
 -- nothing that needs an encoding.
-use Rattle.std.proofs.Common.{ℕ, Bool, true, false}
+use Rattle.std.proofs.Common.{ℕ, ◌-◌, Bool, true, false}
 use Rattle.std.specs.Prelude.{⊤, ◌==◌, ◌&&◌, ◌||◌, not, nat_lt, min, Option, Some, None, option_map, if◌then◌else◌}
 use Rattle.cell_base.specs.Screen.{Screen, height}
 use Rattle.csi_codec.specs.Actions as codec
@@ -8,19 +8,28 @@ use Rattle.csi_codec.specs.declared.cursors.Cursor.{Cursor}
 use Rattle.csi_codec.specs.declared.cursors.Cursor.TheVariants as cursor
 use Rattle.csi_codec.specs.declared.edits.Edit.{Edit}
 use Rattle.csi_codec.specs.declared.edits.Edit.TheVariants as edit
+use Rattle.csi_codec.specs.declared.edits.EraseInDisplay.TheVariants as display
 use Rattle.csi_codec.specs.declared.edits.EraseInLine.TheVariants as line
 use Rattle.csi_codec.specs.declared.escapes.Esc.TheVariants as esc
 use Rattle.csi_codec.specs.declared.escapes.EscCode.{EscCode}
 use Rattle.csi_codec.specs.declared.escapes.EscCode.TheVariants as code
+use Rattle.csi_codec.specs.declared.modes.DecPrivateMode.TheVariants as private
+use Rattle.csi_codec.specs.declared.modes.DecPrivateModeCode.{DecPrivateModeCode}
+use Rattle.csi_codec.specs.declared.modes.DecPrivateModeCode.TheVariants as dec
+use Rattle.csi_codec.specs.declared.modes.Mode.{Mode}
+use Rattle.csi_codec.specs.declared.modes.Mode.TheVariants as mode
 use Rattle.escape_stream.specs.StreamAction.{StreamAction}
 use Rattle.escape_stream.specs.StreamAction as stream
 use Rattle.terminal_table.specs.Functions as table
 use Rattle.terminal_table.specs.Functions.{ControlFunction, function_of}
 use Rattle.terminal_table.specs.Modes.{Modes, Region, region_on}
-use Rattle.terminal_table.specs.Request.{Request, Table, Xterm, Sets}
+use Rattle.terminal_table.specs.Request.{Request, Table, Xterm, Sets, Switches, Replies, ToInitial, ToRegion, ToOrigin}
 use Rattle.terminal_table.specs.Requests.{own_first, own_request, request_of}
 use Rattle.terminal_table.specs.Xterm as own
-use Rattle.terminal_table.specs.XtermRequests.{control_request, cursor_request, edit_request, escape_request, feeds_plainly, is_pending, line_feed_request, margins_request, next_line_request, reverse_index_request, scroll_down_request, scroll_up_request, scrolls_plainly, where_between, xterm_request}
+use Rattle.terminal_table.specs.XtermRequests.{control_request, cursor_request, edit_request, escape_request, feeds_plainly, home_function, line_feed_request, line_within, mode_request, next_line_request, reset_request, reverse_index_request, rows_above, rows_below, rows_request, scroll_down_request, scroll_up_request, scrolls_plainly, set_request, where_between, where_origin, where_shown, xterm_request}
+use Rattle.terminal_table.specs.Screens as screens
+use Rattle.terminal_table.specs.Screens.{ScreenFunction, is_pending}
+use Rattle.terminal_table.specs.Steps.{active_column, position_text}
 use Rattle.xterm_table.specs.RowMoves.{is_between}
 use Rattle.terminal_render.specs.Spelling.{IsSpelledFunction, IsSpelledRequest}
 
@@ -28,7 +37,9 @@ abbrev pub IsSpelledAsked : Option Request → Type 0
 IsSpelledAsked None = ⊤
 IsSpelledAsked (Some (Table function)) = IsSpelledFunction function
 IsSpelledAsked (Some (Xterm function)) = ⊤
-IsSpelledAsked (Some (Sets modes function)) = IsSpelledFunction function
+IsSpelledAsked (Some (Sets setting function)) = IsSpelledFunction function
+IsSpelledAsked (Some (Switches function)) = ⊤
+IsSpelledAsked (Some (Replies text)) = ⊤
 
 -- either of two requests
 either : (b : Bool) (x y : Request) → IsSpelledAsked (Some x) → IsSpelledAsked (Some y) → IsSpelledAsked (Some (if b then x else y))
@@ -60,23 +71,73 @@ escape_asked r s code.Index = feed_asked r s
 escape_asked r s code.NextLine = next_asked r s
 escape_asked r s code.ReverseIndex = reverse_asked r s
 escape_asked r s code.FullReset = tt
+escape_asked r s code.DecSaveCursorPosition = tt
+escape_asked r s code.DecRestoreCursorPosition = tt
 escape_asked r s _ = tt
 
-cursor_asked : (r : Region) (s : Screen) (value : Cursor) → IsSpelledAsked (cursor_request r s value)
-cursor_asked r s (cursor.Up n) = tt
-cursor_asked r s (cursor.Down n) = tt
-cursor_asked r s (cursor.PrecedingLine n) = tt
-cursor_asked r s (cursor.NextLine n) = tt
-cursor_asked r s (cursor.SetTopAndBottomMargins top bottom) =
+origin_asked : (b : Bool) (x : Request) → IsSpelledAsked (Some x) → IsSpelledAsked (where_origin b x)
+origin_asked true x p = p
+origin_asked false x p = tt
+
+-- a move home
+home_asked : (b : Bool) (r : Region) → IsSpelledFunction (home_function b r)
+home_asked true r = tt
+home_asked false r = tt
+
+rows_asked : (m : Modes) (r : Region) (s : Screen) (value : Cursor) → IsSpelledAsked (rows_request m r s value)
+rows_asked m r s (cursor.Up n) = tt
+rows_asked m r s (cursor.Down n) = tt
+rows_asked m r s (cursor.PrecedingLine n) = tt
+rows_asked m r s (cursor.NextLine n) = tt
+rows_asked m r s (cursor.LinePositionBackward n) = origin_asked m.origin (Table (table.Moves (table.Up (rows_above r s n)))) tt
+rows_asked m r s (cursor.LinePositionForward n) = origin_asked m.origin (Table (table.Moves (table.Down (rows_below r s n)))) tt
+rows_asked m r s _ = tt
+
+cursor_asked : (m : Modes) (r : Region) (s : Screen) (value : Cursor) → IsSpelledAsked (cursor_request m r s value)
+cursor_asked m r s (cursor.LinePositionAbsolute line) = origin_asked m.origin (Table (table.Moves (table.ToLine (line_within r line)))) tt
+cursor_asked m r s (cursor.Position line column) = origin_asked m.origin (Table (table.Moves (table.ToPosition (line_within r line) column))) tt
+cursor_asked m r s (cursor.CharacterAndLinePosition line column) = origin_asked m.origin (Table (table.Moves (table.ToPosition (line_within r line) column))) tt
+cursor_asked m r s (cursor.SetTopAndBottomMargins top bottom) =
     let last = min bottom (height s) in
-    maybe (nat_lt top last) (Sets _ (table.Moves (table.ToPosition 1 1))) tt
-cursor_asked r s _ = tt
+    let region : Region = record { top = top - 1; bottom = last - 1 } in
+    maybe (nat_lt top last) (Sets (ToRegion region) (home_function m.origin region)) (home_asked m.origin region)
+cursor_asked m r s cursor.SaveCursor = tt
+cursor_asked m r s cursor.RestoreCursor = tt
+cursor_asked m r s cursor.RequestActivePositionReport = origin_asked m.origin (Replies (position_text (s.row - r.top) (active_column s))) tt
+cursor_asked m r s value = rows_asked m r s value
+
+shown_asked : (b : Bool) (function : ScreenFunction) → IsSpelledAsked (where_shown b function)
+shown_asked true function = tt
+shown_asked false function = tt
+
+set_asked : (m : Modes) (r : Region) (known : DecPrivateModeCode) → IsSpelledAsked (set_request m r known)
+set_asked m r dec.OriginMode = home_asked true r
+set_asked m r dec.EnableAlternateScreen = shown_asked (not m.alternate) screens.ShowOther
+set_asked m r dec.OptEnableAlternateScreen = shown_asked (not m.alternate) screens.ShowOther
+set_asked m r dec.SaveCursor = tt
+set_asked m r dec.ClearAndEnableAlternateScreen = tt
+set_asked m r _ = tt
+
+reset_asked : (m : Modes) (r : Region) (known : DecPrivateModeCode) → IsSpelledAsked (reset_request m r known)
+reset_asked m r dec.OriginMode = home_asked false r
+reset_asked m r dec.EnableAlternateScreen = shown_asked m.alternate screens.ShowOther
+reset_asked m r dec.OptEnableAlternateScreen = shown_asked m.alternate screens.ClearAndShowOther
+reset_asked m r dec.SaveCursor = tt
+reset_asked m r dec.ClearAndEnableAlternateScreen = tt
+reset_asked m r _ = tt
+
+mode_asked : (m : Modes) (r : Region) (value : Mode) → IsSpelledAsked (mode_request m r value)
+mode_asked m r (mode.SetDecPrivateMode (private.Code known)) = set_asked m r known
+mode_asked m r (mode.ResetDecPrivateMode (private.Code known)) = reset_asked m r known
+mode_asked m r _ = tt
 
 edit_asked : (r : Region) (s : Screen) (value : Edit) → IsSpelledAsked (edit_request r s value)
 edit_asked r s (edit.EraseCharacter n) = tt
 edit_asked r s (edit.InsertCharacter n) = tt
 edit_asked r s (edit.DeleteCharacter n) = tt
 edit_asked r s (edit.EraseInLine line.EraseToStartOfLine) = tt
+edit_asked r s (edit.EraseInDisplay display.EraseToStartOfDisplay) = tt
+edit_asked r s (edit.EraseInDisplay display.EraseToEndOfDisplay) = maybe (is_pending s) (Xterm own.EraseToEndOfDisplay) tt
 edit_asked r s (edit.EraseInLine line.EraseToEndOfLine) = maybe (is_pending s) (Xterm own.EraseToEndOfLine) tt
 edit_asked r s (edit.ScrollUp n) = either (scrolls_plainly r s) (Table (table.ScrollUp n)) (Xterm (own.ScrollUp r n)) tt tt
 edit_asked r s (edit.ScrollDown n) = either (scrolls_plainly r s) (Table (table.ScrollDown n)) (Xterm (own.ScrollDown r n)) tt tt
@@ -88,8 +149,9 @@ xterm_asked : (modes : Modes) (s : Screen) (action : StreamAction) → IsSpelled
 unfolding xterm_request
 xterm_asked modes s (stream.control n) = control_asked (region_on modes s) s n
 xterm_asked modes s (stream.esc (esc.Code known)) = escape_asked (region_on modes s) s known
-xterm_asked modes s (stream.csi (codec.cursor value)) = cursor_asked (region_on modes s) s value
+xterm_asked modes s (stream.csi (codec.cursor value)) = cursor_asked modes (region_on modes s) s value
 xterm_asked modes s (stream.csi (codec.edit value)) = edit_asked (region_on modes s) s value
+xterm_asked modes s (stream.csi (codec.mode value)) = mode_asked modes (region_on modes s) value
 xterm_asked modes s _ = tt
 
 own_asked : (modes : Option Modes) (s : Screen) (action : StreamAction) → IsSpelledAsked (own_request modes s action)

@@ -30,7 +30,7 @@ use Rattle.cell_base.specs.declared.color.ColorSpec.TheVariants as spec
 use Rattle.cell_base.specs.Color.{attribute_of}
 use Rattle.csi_codec.specs.Writable.{IsColour, IsWritableSgr}
 use Rattle.csi_codec.specs.declared.rendition.Sgr.{Sgr}
-use Rattle.terminal_table.specs.State.{SavedCursor}
+use Rattle.terminal_table.specs.Modes.{SavedCursor}
 use Rattle.terminal_table.specs.Functions as table
 use Rattle.terminal_table.specs.Functions.{Move, ControlFunction}
 use Rattle.terminal_table.specs.Steps.{cursor_to_restore}
@@ -222,7 +222,7 @@ rendition_spelled (sgr.Overline value) pen h p = (assumption p, tt)
 rendition_spelled (sgr.VerticalAlign value) pen h p = (assumption p, tt)
 rendition_spelled _ pen h p = (tt, tt)
 
-restored_spelled : (saved : Option SavedCursor) → IsSpelledSaved saved → IsSpelledPen (cursor_to_restore saved).pen
+pub restored_spelled : (saved : Option SavedCursor) → IsSpelledSaved saved → IsSpelledPen (cursor_to_restore saved).pen
 restored_spelled None g = plain_spelled
 restored_spelled (Some cursor) g = g
 

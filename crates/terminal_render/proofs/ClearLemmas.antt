@@ -18,7 +18,7 @@ use Rattle.csi_codec.specs.declared.edits.EraseInLine.TheVariants as line
 use Rattle.escape_stream.specs.StreamAction.{StreamAction}
 use Rattle.screen_effects.specs.Display.{Display, IsDisplay}
 use Rattle.screen_effects.specs.Effect.{with_pen, cleared_screen, cleared_line, cleared_below}
-use Rattle.terminal_table.specs.State.{SavedCursor}
+use Rattle.terminal_table.specs.Modes.{SavedCursor}
 use Rattle.terminal_table.specs.Functions.{function_of, EraseToEndOfDisplay}
 use Rattle.terminal_table.proofs.TurnLemmas.{erased_is, function_turns}
 use Rattle.terminal_render.specs.Effects.{actions_done}

@@ -9,7 +9,7 @@ use Rattle.csi_codec.specs.Parameters.{word_max}
 use Rattle.csi_codec.specs.declared.cursors.Cursor.{Cursor}
 use Rattle.csi_codec.specs.declared.cursors.Cursor.TheVariants as cursor
 use Rattle.screen_effects.specs.Positions.{resolved, resolved_column}
-use Rattle.terminal_table.specs.State.{SavedCursor}
+use Rattle.terminal_table.specs.Modes.{SavedCursor}
 use Rattle.terminal_table.specs.Functions.{function_of}
 use Rattle.terminal_render.specs.Effects.{actions_done}
 use Rattle.terminal_render.specs.Positions.{Way, At, Back, On, way_of, move_by, moves, position_moves}

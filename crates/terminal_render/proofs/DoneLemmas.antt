@@ -13,7 +13,7 @@ use Rattle.cell_base.specs.Screen.{Screen, put, put_run}
 use Rattle.escape_stream.specs.StreamAction.{StreamAction, control}
 use Rattle.screen_effects.specs.Display.{Display}
 use Rattle.screen_effects.specs.Strokes.{TextPart, Plain, Control, Stroke, CarriageReturn, LineFeed, Cluster, text_parts, part_strokes, strokes, stroke_on, stroke_done}
-use Rattle.terminal_table.specs.State.{SavedCursor}
+use Rattle.terminal_table.specs.Modes.{SavedCursor}
 use Rattle.terminal_table.specs.Functions.{function_of}
 use Rattle.terminal_table.specs.Steps.{run_step}
 use Rattle.terminal_table.specs.History.{Act}

@@ -22,7 +22,8 @@ use Rattle.terminal_render.specs.Spelling.{IsSpelledView, IsSpelledEvent, AreSpe
 use Rattle.terminal_render.proofs.SpelledPenLemmas.{map_some, then_some}
 use Rattle.terminal_render.proofs.ChangeLemmas.{encodings_append}
 use Rattle.terminal_render.proofs.StreamLemmas.{events_spelled}
-use Rattle.terminal_render.proofs.ViewLemmas.{HasSize, AreEncoded, settled_size, acted_size, moved_has, event_encoded, event_spelled}
+use Rattle.terminal_table.proofs.StateLemmas.{HasSize}
+use Rattle.terminal_render.proofs.ViewLemmas.{AreEncoded, settled_size, acted_size, moved_has, event_encoded, event_spelled}
 
 -- ---- lists
 

@@ -23,7 +23,7 @@ use Rattle.cell_base.specs.Screen.{Screen}
 use Rattle.csi_codec.specs.declared.rendition.Sgr.{Sgr}
 use Rattle.csi_codec.specs.declared.rendition.Sgr.TheVariants as sgr
 use Rattle.screen_effects.specs.Effect.{with_pen}
-use Rattle.terminal_table.specs.State.{SavedCursor}
+use Rattle.terminal_table.specs.Modes.{SavedCursor}
 use Rattle.terminal_table.specs.Functions.{function_of}
 use Rattle.terminal_table.specs.Steps.{with_rendition, with_link}
 use Rattle.terminal_render.specs.Effects.{actions_done}

@@ -7,7 +7,7 @@ use Rattle.cell_base.specs.Row.{plain_row}
 use Rattle.cell_base.specs.Screen.{Screen, height}
 use Rattle.csi_codec.specs.declared.edits.Edit.TheVariants as edit
 use Rattle.screen_effects.specs.Regions.{moved_up, moved_down, in_region}
-use Rattle.terminal_table.specs.State.{SavedCursor}
+use Rattle.terminal_table.specs.Modes.{SavedCursor}
 use Rattle.terminal_table.specs.Functions.{function_of}
 use Rattle.terminal_table.proofs.ListLemmas.{append_nil, drop_past}
 use Rattle.terminal_render.specs.Effects.{actions_done}

@@ -19,7 +19,7 @@ use Rattle.cell_base.specs.WholeRow.{IsWhole}
 use Rattle.escape_stream.specs.StreamAction.{StreamAction}
 use Rattle.screen_effects.specs.Display.{Display}
 use Rattle.screen_effects.specs.Effect.{effect, with_pen}
-use Rattle.terminal_table.specs.State.{SavedCursor}
+use Rattle.terminal_table.specs.Modes.{SavedCursor}
 use Rattle.terminal_table.specs.Functions.{function_of}
 use Rattle.terminal_render.specs.Effects.{actions_done, with_change, RenderingsHaveTheEffect}
 use Rattle.terminal_render.specs.Links.{is_carried, is_plain_text}

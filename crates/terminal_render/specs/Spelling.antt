@@ -19,7 +19,8 @@ use Rattle.escape_stream.specs.StreamAction.{StreamAction, printed}
 use Rattle.terminal_render.specs.Carried.{IsChange}
 use Rattle.terminal_render.specs.Links.{is_carried, is_plain_text}
 use Rattle.terminal_render.specs.Rendering.{rendering}
-use Rattle.terminal_table.specs.State.{SavedCursor, State, IsState}
+use Rattle.terminal_table.specs.Modes.{Modes, OtherScreen, SavedCursor}
+use Rattle.terminal_table.specs.State.{State, IsState}
 use Rattle.terminal_table.specs.Requests.{acted_changes}
 use Rattle.terminal_table.specs.Functions as table
 use Rattle.terminal_table.specs.Functions.{ControlFunction, function_of}
@@ -77,9 +78,20 @@ abbrev pub IsSpelledSaved : Option SavedCursor → Type 0
 IsSpelledSaved None = ⊤
 IsSpelledSaved (Some cursor) = IsSpelledPen cursor.pen
 
+-- the cells of the screen that is not shown are spelled, and the pen of the cursor that was saved on it
+pub record IsSpelledOther (other : OtherScreen) : Type 0 where
+  pub rows : All IsSpelledRow other.rows
+  pub cursor : IsSpelledSaved other.cursor
+
+-- that screen is spelled, if the profile has one
+abbrev pub AreSpelledModes : Option Modes → Type 0
+AreSpelledModes None = ⊤
+AreSpelledModes (Some modes) = IsSpelledOther modes.other
+
 pub record IsSpelledState (state : State) : Type 0 where
   pub screen : IsSpelledScreen state.screen
   pub saved : IsSpelledSaved state.saved
+  pub modes : AreSpelledModes state.modes
 
 pub record IsSpelledView (view : View) : Type 0 where
   pub state : IsSpelledState view.state

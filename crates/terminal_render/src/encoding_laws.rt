@@ -21,7 +21,7 @@ ghost use Rattle.terminal_table.specs.Led.{led, led_behind, led_with_title};
 ghost use Rattle.xterm_table.specs.Follows.{Follows};
 ghost use Rattle.terminal_table.specs.Logged.{event_logged, log_after};
 ghost use Rattle.terminal_table.specs.Meaning.{View, new_view, new_view_with, after, event_done};
-ghost use Rattle.terminal_table.specs.Modes.{Modes};
+ghost use Rattle.terminal_table.specs.Modes.{AreNew, Modes};
 ghost use Rattle.terminal_table.specs.State.{State, IsState};
 ghost use Rattle.terminal_table.specs.Steps.{step};
 ghost use Rattle.terminal_table.specs.Turns.{AreSizes, IsView, IsEvent, changes_in};
@@ -55,7 +55,7 @@ pub fn displays_stay_spelled()
 /// after events that have an encoding themselves.
 pub fn views_stay_spelled()
     ensures new { (width : ℕ) (height : ℕ) → IsSpelledView (new_view width height) }
-    ensures modes { (modes : Option Modes) (width : ℕ) (height : ℕ)
+    ensures modes { (modes : Option Modes) (width : ℕ) (height : ℕ) → AreNew modes
         → IsSpelledView (new_view_with modes width height) }
     ensures event { (width_of : List ℕ → ℕ) (view : View) (event : Event) → IsView width_of view → IsEvent event
         → IsSpelledView view → IsSpelledEvent event → IsSpelledView (event_done width_of view event) }

@@ -4,3 +4,6 @@ pub mod TakeLemmas
 pub mod SpellLemmas
 pub mod MemoryLemmas
 pub mod RequestLemmas
+pub mod ProfileLemmas
+pub mod LineLemmas
+pub mod SwitchLemmas

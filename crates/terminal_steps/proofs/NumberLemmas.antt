@@ -1,6 +1,6 @@
 -- A log's number never falls, so an event that is refused a number leads past the last one.
-use Rattle.std.proofs.Common.{◌≡◌, ◌≢◌, ℕ, ◌<◌, ◌≤◌, ◌+◌, ◌-◌, ◌^◌, Bool, true, false, List, [], ◌∷◌, ◌++◌, length, map, fold, refl, sym, ap, subst, ◌∙◌, arith}
-use Rattle.std.specs.Prelude.{nat_lt, if◌then◌else◌, option_map}
+use Rattle.std.proofs.Common.{◌≡◌, ◌≢◌, ℕ, ◌<◌, ◌≤◌, ◌+◌, ◌-◌, ◌^◌, Bool, true, false, List, [], ◌∷◌, ◌++◌, length, map, fold, inl, inr, refl, sym, ap, subst, ◌∙◌, arith}
+use Rattle.std.specs.Prelude.{◌⊎◌, nat_lt, if◌then◌else◌, option_map}
 use Rattle.std.specs.String.{string_bytes}
 use Rattle.std.specs.List.{FoldsTo}
 use Rattle.std.proofs.lemmas.List.Sums.{fold-append}
@@ -21,20 +21,22 @@ use Rattle.terminal_table.specs.Turns.{AreEvents, IsPrinted}
 use Rattle.terminal_table.proofs.JoinLemmas.{events_logged-append}
 use Rattle.terminal_table.proofs.ListLemmas.{append_nil}
 use Rattle.terminal_table.proofs.StateLemmas.{size_is}
-use Rattle.std.proofs.lemmas.List.{map-append}
+use Rattle.std.proofs.lemmas.List.{length-append, length-map, map-append}
 use Rattle.cell_surface.specs.declared.error.SurfaceError.{SurfaceError}
 use Rattle.cell_surface.specs.declared.error.SurfaceError.TheVariants as refusal
 use Rattle.escape_stream.specs.Items.{Item}
 use Rattle.escape_stream.specs.Performing.{StopsAt, HaltsAt}
 use Rattle.escape_stream.specs.declared.perform.Halted.{Halted}
 use Rattle.escape_stream.specs.declared.perform.Halted.TheVariants as halted
+use Rattle.terminal_steps.specs.Memory.{TakesMemory, TakesOwnMemory, asked_in}
 use Rattle.terminal_steps.specs.Refusals.{of_halted}
+use Rattle.xterm_steps.specs.Additions.{IsChangeRefused}
 use Rattle.terminal_steps.specs.Items.{item_event, item_events, DoesItem, RefusesItem}
 use Rattle.terminal_steps.specs.declared.error.TerminalError.TheVariants.{Failed, Number}
 use Rattle.terminal_steps.proofs.StateLemmas.{lawful_after}
 use Rattle.terminal_steps.proofs.TakeLemmas.{are_prefix, are_after, leads}
 use Rattle.terminal_steps.specs.Events.{view_of, Does, IsReady, Had, NeedsNumber, final_log}
-use Rattle.terminal_steps.specs.TerminalStates.{state_of}
+use Rattle.terminal_steps.specs.ProfileView.{kept_modes}
 use Rattle.terminal_steps.specs.declared.state.TerminalState.{TerminalState}
 
 pub step_number : (s : Sized) (step : LogStep) → s.log.number ≤ (step_of_kept s step).log.number
@@ -96,13 +98,38 @@ module _ {W : Type 0} (width_of : W → List ℕ → ℕ) where
 
   -- nor where one of its changes has none
   pub acted_past : (t u : TerminalState W) (action : StreamAction) → is_print action ≡ false → Does width_of t u (Looked ∷ [])
-      → 2 ^ 64 ≤ number_of u.surface + length (acted_changes action (state_of u.surface u.saved u.replies.items u.modes)) → NeedsNumber width_of t (Act action ∷ [])
+      → (IsReady width_of u → 2 ^ 64 ≤ number_of u.surface + length (acted_changes action (view_of u).state)) → NeedsNumber width_of t (Act action ∷ [])
   acted_past t u action p does past = λ ready events.
       let had = does ready (tt, tt) in
       let changes : List ChangeValue = acted_changes action (view_of u).state in
-      let there : Past (fold step_of_kept u.surface.log (map Logged changes)) = subst (λ n. 2 ^ 64 ≤ n) (sym (logged_number changes u.surface.log)) past in
+      let there : Past (fold step_of_kept u.surface.log (map Logged changes)) = subst (λ n. 2 ^ 64 ≤ n) (sym (logged_number changes u.surface.log)) (past had.ready) in
       subst Past (sym (act_after t action p))
       (subst Past (λ i. fold step_of_kept (had.log i) (map Logged (acted_changes action (had.view i).state))) there)
+
+  -- an action after the run is refused memory as its own request or one of its changes is
+  pub acted_memory : (t u : TerminalState W) (action : StreamAction) (failed : Bool) → Does width_of t u (Looked ∷ [])
+      → (IsReady width_of u → TakesOwnMemory (asked_in (view_of u).state action) (number_of u.surface) ⊎ IsChangeRefused (acted_changes action (view_of u).state) (number_of u.surface) failed)
+      → IsReady width_of t → is_print action ≡ false → TakesMemory (of t) (view_of t) t.surface.log (Act action) failed
+  acted_memory t u action failed does refused ready p =
+      let had = does ready (tt, tt) in
+      let log : u.surface.log ≡ fold step_of_kept t.surface.log (run_logged (view_of t)) = had.log ∙ ap (fold step_of_kept t.surface.log) (append_nil (run_logged (view_of t))) in
+      by_cause had log (refused had.ready)
+    where
+      by_cause : Had width_of t u (Looked ∷ []) → u.surface.log ≡ fold step_of_kept t.surface.log (run_logged (view_of t))
+          → TakesOwnMemory (asked_in (view_of u).state action) (number_of u.surface) ⊎ IsChangeRefused (acted_changes action (view_of u).state) (number_of u.surface) failed
+          → TakesMemory (of t) (view_of t) t.surface.log (Act action) failed
+      by_cause had log (inl own) = inr (inl (subst (λ (T : Type 0). T) (λ i. TakesOwnMemory (asked_in (had.view i).state action) (log i).log.number) own))
+      by_cause had log (inr change) =
+          let changes : List ChangeValue = acted_changes action (settled (of t) (view_of t)).state in
+          let same : length (acted_changes action (view_of u).state) ≡ length changes = ap (λ (v : View). length (acted_changes action v.state)) had.view in
+          let logged : event_logged (of t) (view_of t) (Act action) ≡ run_logged (view_of t) ++ map Logged changes = ap (λ (b : Bool). if b then [] else run_logged (view_of t) ++ map Logged changes) p in
+          let size = ap length logged ∙ length-append (run_logged (view_of t)) (map Logged changes) in
+          let as_many = length-map changes Logged in
+          let some = change.0 in
+          let more = fold_number (run_logged (view_of t)) t.surface.log in
+          let number = ap (λ (l : Sized). l.log.number) log in
+          let fits = change.1 in
+          inr (inr (omega (arith, same, size, as_many, some), omega (arith, more, number, fits), change.2))
 
   -- ---- other sizes
 
@@ -115,7 +142,7 @@ module _ {W : Type 0} (width_of : W → List ℕ → ℕ) where
       by_entries (c ∷ cs) e = rw e (let some : s.log.log.entries ≢ [] = λ none. cc in let last : s.log.log.number ≢ 2 ^ 64 - 1 = λ n. numbers (stays, n, some) in omega (arith, fits, last))
 
   pub resized_had : (t u : TerminalState W) (s : Surface W) (r : TerminalState W) (width height : ℕ) → 0 < width → 0 < height
-      → r.surface ≡ s → string_bytes r.held ≡ string_bytes u.held → r.saved ≡ u.saved → r.replies.items ≡ u.replies.items → r.modes ≡ option_map resized_modes u.modes
+      → r.surface ≡ s → string_bytes r.held ≡ string_bytes u.held → r.saved ≡ u.saved → r.replies.items ≡ u.replies.items → kept_modes r.modes ≡ option_map (resized_modes width height) (kept_modes u.modes)
       → Had width_of t u (Looked ∷ [])
       → Resizes width height u.surface s → ((u.surface.is_failed ≡ false) × (u.surface.log.log.number ≡ 2 ^ 64 - 1) × (u.surface.log.log.entries ≢ []) → ⊥)
       → Had width_of t r (Resized width height ∷ [])

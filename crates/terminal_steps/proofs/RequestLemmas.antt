@@ -1,16 +1,21 @@
 -- What an action asks for, as xterm itself has it or as the table does.
-use Rattle.std.proofs.Common.{◌≡◌, ℕ, Bool, inl, inr, List, sym, ap, subst, ◌∙◌}
-use Rattle.std.specs.Prelude.{◌⊎◌, Option, Some, None, option_map}
+use Rattle.std.proofs.Common.{◌≡◌, ℕ, ◌+◌, ◌^◌, ◌<◌, ◌≤◌, Bool, inl, inr, List, length, refl, sym, ap, subst, ◌∙◌}
+use Rattle.std.specs.Prelude.{◌⊎◌, ⊤, Option, Some, None, Result, Ok, Err, IfOk, IsErrOf, option_map}
+use Rattle.cell_surface.specs.Surface.{Surface, number_of}
+use Rattle.cell_surface.specs.declared.error.SurfaceError.{SurfaceError}
+use Rattle.cell_surface.specs.declared.error.SurfaceError.TheVariants.{Failed, Number, Memory}
 use Rattle.screen_change.specs.ChangeValue.{ChangeValue}
 use Rattle.escape_stream.specs.StreamAction.{StreamAction}
 use Rattle.terminal_table.specs.Changes.{changes_of}
 use Rattle.terminal_table.specs.Functions.{ControlFunction, function_of}
+use Rattle.terminal_table.specs.Modes.{SavedCursor}
 use Rattle.terminal_table.specs.Request.{Request, Table}
 use Rattle.terminal_table.specs.Requests.{acted, acted_changes, own_first, own_request, request_changes, request_done, request_of}
 use Rattle.terminal_table.specs.State.{State}
 use Rattle.terminal_table.specs.Steps.{step_of}
 use Rattle.terminal_table.proofs.RequestLemmas.{plain_changes, plain_done}
-use Rattle.xterm_steps.specs.Additions.{IsChangeRefused}
+use Rattle.xterm_steps.specs.Additions.{AddsAll, IsChangeRefused}
+use Rattle.terminal_steps.specs.CarriesOut.{Carries}
 use Rattle.terminal_steps.specs.Memory.{TakesOwnMemory, TakesTableMemory}
 
 module _ (state : State) (action : StreamAction) where
@@ -42,3 +47,32 @@ module _ (state : State) (action : StreamAction) where
       → TakesOwnMemory (request_of state.modes state.screen action) number ⊎ IsChangeRefused (acted_changes action state) number failed
   table_refused number failed e (inl h) = inl (table_memory number e h)
   table_refused number failed e (inr h) = inr (subst (λ (changes : List ChangeValue). IsChangeRefused changes number failed) (table_changes e) h)
+
+  -- what the table has is done, and the modes stay
+  modes_stay : (function : Option ControlFunction) → state.modes ≡ (step_of function state).modes
+  modes_stay None = refl
+  modes_stay (Some function) = refl
+
+  if_ok : {X : Type 0} (result : Result ⊤ SurfaceError) → X → IfOk result (λ _. X)
+  if_ok (Ok done) x = x
+  if_ok (Err refusal) x = tt
+
+  pub table_carries : {W : Type 0} (width_of : W → List ℕ → ℕ) (before after : Surface W) (result : Result ⊤ SurfaceError) (cursor : Option SavedCursor) (answers : List ℕ) → None ≡ own
+      → IfOk result (λ _. AddsAll width_of before after (changes_of (function_of action) state))
+      → IfOk result (λ _. cursor ≡ (step_of (function_of action) state).saved)
+      → IfOk result (λ _. answers ≡ (step_of (function_of action) state).replies)
+      → (IsErrOf result Failed → ⊥)
+      → (IsErrOf result Number → 2 ^ 64 ≤ number_of before + length (changes_of (function_of action) state))
+      → (IsErrOf result Memory → number_of before < 2 ^ 64 → TakesTableMemory (function_of action) (number_of before) ⊎ IsChangeRefused (changes_of (function_of action) state) (number_of before) after.is_failed)
+      → IfOk result (λ _. number_of before < 2 ^ 64 → number_of after < 2 ^ 64)
+      → Carries width_of state (request_of state.modes state.screen action) before result after cursor answers state.modes
+  table_carries width_of before after result cursor answers e added saved replies failed numbers memory fits = record {
+    added = subst (λ (changes : List ChangeValue). IfOk result (λ _. AddsAll width_of before after changes)) (table_changes e) added;
+    saved = subst (λ (s : State). IfOk result (λ _. cursor ≡ s.saved)) (table_done e) saved;
+    replies = subst (λ (s : State). IfOk result (λ _. answers ≡ s.replies)) (table_done e) replies;
+    modes = if_ok result (modes_stay (function_of action) ∙ ap (λ (s : State). s.modes) (table_done e));
+    failed = failed;
+    numbers = λ refused. subst (λ (changes : List ChangeValue). 2 ^ 64 ≤ number_of before + length changes) (table_changes e) (numbers refused);
+    memory = λ refused few. table_refused (number_of before) after.is_failed e (memory refused few);
+    fits = fits;
+  }

@@ -24,6 +24,7 @@ use Rattle.terminal_table.proofs.StateLemmas.{run_is}
 use Rattle.terminal_table.proofs.ListLemmas.{append_nil}
 use Rattle.xterm_steps.specs.Additions.{AddsAll}
 use Rattle.terminal_steps.specs.Events.{view_of, IsReady, Had}
+use Rattle.terminal_steps.specs.ProfileView.{kept_modes}
 use Rattle.terminal_steps.specs.declared.state.TerminalState.{TerminalState}
 
 module _ {W : Type 0} (width_of : W → List ℕ → ℕ) where
@@ -62,7 +63,7 @@ module _ {W : Type 0} (width_of : W → List ℕ → ℕ) where
       screens = ap (λ x. (shown_by x).screen) k ∙ ap (λ d. d.screen) a.shown ∙ (run_step_turns (of t) text (view_of t).state (shown_by t.surface) run h.lawful h.shown refl).screen
 
       states : (view_of r).state ≡ run_step (of t) text (view_of t).state
-      states = λ i. record { screen = screens i; saved = v i; replies = q i; modes = m i }
+      states = λ i. record { screen = screens i; saved = v i; replies = q i; modes = kept_modes (m i) }
 
       ended : Bool → View
       ended b = record { state = if b then (view_of t).state else run_step (of t) text (view_of t).state; stream = []; held = [] }
@@ -76,7 +77,7 @@ module _ {W : Type 0} (width_of : W → List ℕ → ℕ) where
       → Had width_of t u (Looked ∷ [])
       → AddsAll width_of u.surface s (acted_changes action (view_of u).state)
       → r.saved ≡ (acted action (view_of u).state).saved
-      → r.replies.items ≡ (acted action (view_of u).state).replies → r.modes ≡ (acted action (view_of u).state).modes → s.log.log.number < 2 ^ 64
+      → r.replies.items ≡ (acted action (view_of u).state).replies → kept_modes r.modes ≡ (acted action (view_of u).state).modes → s.log.log.number < 2 ^ 64
       → Had width_of t r (Act action ∷ [])
   act_had t u s action r p e k h a v q m f = record {
     view = (λ i. record { state = states i; stream = []; held = k i }) ∙ ap {B = View} (λ (x : View). record x { state = acted action x.state }) h.view ∙ sym (ap done p);

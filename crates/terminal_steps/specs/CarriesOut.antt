@@ -1,14 +1,13 @@
 -- What becomes of a surface, a saved cursor, replies and the modes of xterm where what was asked for is done.
-use Rattle.std.specs.Prelude.{◌≡◌, ◌≤◌, ◌<◌, ◌+◌, ◌^◌, ◌⊎◌, ℕ, List, Option, Some, Result, IfOk, IsErrOf, length}
+use Rattle.std.specs.Prelude.{◌≡◌, ◌≤◌, ◌<◌, ◌+◌, ◌^◌, ◌⊎◌, ⊤, ℕ, List, Option, Some, Result, IfOk, IsErrOf, length}
 use Rattle.cell_surface.specs.Surface.{Surface, number_of}
 use Rattle.cell_surface.specs.declared.error.SurfaceError.{SurfaceError}
 use Rattle.cell_surface.specs.declared.error.SurfaceError.TheVariants.{Failed, Number, Memory}
 use Rattle.escape_stream.specs.StreamAction.{StreamAction}
-use Rattle.screen_change.specs.ChangeValue.{ChangeValue}
-use Rattle.terminal_table.specs.Modes.{Modes}
+use Rattle.terminal_table.specs.Modes.{Modes, SavedCursor}
 use Rattle.terminal_table.specs.Request.{Request}
 use Rattle.terminal_table.specs.Requests.{request_changes, request_done, request_of}
-use Rattle.terminal_table.specs.State.{SavedCursor, State}
+use Rattle.terminal_table.specs.State.{CanBeShown, State}
 use Rattle.xterm_steps.specs.Additions.{AddsAll, IsChangeRefused}
 use Rattle.terminal_steps.specs.Memory.{TakesOwnMemory}
 
@@ -16,12 +15,12 @@ use Rattle.terminal_steps.specs.Memory.{TakesOwnMemory}
 -- of a number or of memory.
 pub record Carries {W : Type 0}
     (width_of : W → List ℕ → ℕ) (state : State) (request : Option Request) (before : Surface W)
-    (result : Result Modes SurfaceError) (after : Surface W) (cursor : Option SavedCursor) (answers : List ℕ) :
-    Type 0 where
+    (result : Result ⊤ SurfaceError) (after : Surface W) (cursor : Option SavedCursor) (answers : List ℕ)
+    (kept : Option Modes) : Type 0 where
   pub added : IfOk result (λ _. AddsAll width_of before after (request_changes request state))
   pub saved : IfOk result (λ _. cursor ≡ (request_done request state).saved)
   pub replies : IfOk result (λ _. answers ≡ (request_done request state).replies)
-  pub modes : IfOk result (λ next. Some next ≡ (request_done request state).modes)
+  pub modes : IfOk result (λ _. kept ≡ (request_done request state).modes)
   pub failed : IsErrOf result Failed → ⊥
   pub numbers : IsErrOf result Number → 2 ^ 64 ≤ number_of before + length (request_changes request state)
   pub memory : IsErrOf result Memory → number_of before < 2 ^ 64
@@ -29,14 +28,16 @@ pub record Carries {W : Type 0}
       ⊎ IsChangeRefused (request_changes request state) (number_of before) after.is_failed
   pub fits : IfOk result (λ _. number_of before < 2 ^ 64 → number_of after < 2 ^ 64)
 
--- something was asked for
-abbrev pub CarriesOut : {W : Type 0} → (W → List ℕ → ℕ) → State → Request → Surface W → Result Modes SurfaceError
-    → Surface W → Option SavedCursor → List ℕ → Type 0
-CarriesOut width_of state request before result after saved replies =
-    Carries width_of state (Some request) before result after saved replies
+-- something was asked for of a state whose other screen can be shown
+abbrev pub CarriesOut : {W : Type 0} → (W → List ℕ → ℕ) → State → Request → Surface W → Result ⊤ SurfaceError
+    → Surface W → Option SavedCursor → List ℕ → Option Modes → Type 0
+CarriesOut width_of state request before result after saved replies kept =
+    CanBeShown (width_of before.grid.widths) state.screen state.modes
+    → Carries width_of state (Some request) before result after saved replies kept
 
 -- what an action asks for is done
-abbrev pub AppliesXterm : {W : Type 0} → (W → List ℕ → ℕ) → State → StreamAction → Surface W
-    → Result Modes SurfaceError → Surface W → Option SavedCursor → List ℕ → Type 0
-AppliesXterm width_of state action before result after saved replies =
-    Carries width_of state (request_of state.modes state.screen action) before result after saved replies
+abbrev pub Applies : {W : Type 0} → (W → List ℕ → ℕ) → State → StreamAction → Surface W → Result ⊤ SurfaceError
+    → Surface W → Option SavedCursor → List ℕ → Option Modes → Type 0
+Applies width_of state action before result after saved replies kept =
+    CanBeShown (width_of before.grid.widths) state.screen state.modes
+    → Carries width_of state (request_of state.modes state.screen action) before result after saved replies kept

@@ -1,9 +1,11 @@
 -- The control functions of the table, and those of xterm's own, that those of the code represent.
-use Rattle.std.specs.Prelude.{Option, Some, option_map}
+use Rattle.std.specs.Prelude.{Option, option_map}
 use Rattle.std.specs.String.{string_bytes}
 use Rattle.terminal_table.specs.Functions as table
-use Rattle.terminal_table.specs.Modes.{Region, initial_modes}
+use Rattle.terminal_table.specs.Modes.{Region}
 use Rattle.terminal_table.specs.Request as request
+use Rattle.terminal_table.specs.Screens as screens
+use Rattle.terminal_table.specs.Steps.{position_text}
 use Rattle.terminal_table.specs.Xterm as xterm
 use Rattle.terminal_steps.specs.declared.function.Move.{Move}
 use Rattle.terminal_steps.specs.declared.function.Move.TheVariants as move
@@ -13,6 +15,10 @@ use Rattle.terminal_steps.specs.declared.xterm.XtermFunction.{XtermFunction}
 use Rattle.terminal_steps.specs.declared.xterm.XtermFunction.TheVariants as own
 use Rattle.terminal_steps.specs.declared.requests.Request.{Request}
 use Rattle.terminal_steps.specs.declared.requests.Request.TheVariants as asked
+use Rattle.terminal_steps.specs.declared.requests.Setting.{Setting}
+use Rattle.terminal_steps.specs.declared.requests.Setting.TheVariants as set
+use Rattle.terminal_steps.specs.declared.screens.ScreenFunction.{ScreenFunction}
+use Rattle.terminal_steps.specs.declared.screens.ScreenFunction.TheVariants as switch
 
 abbrev pub move_of : Move → table.Move
 move_of (move.Up n) = table.Up n
@@ -59,6 +65,8 @@ own_function region (own.InsertCharacters n) = xterm.InsertCharacters n
 own_function region (own.DeleteCharacters n) = xterm.DeleteCharacters n
 own_function region own.EraseToEndOfLine = xterm.EraseToEndOfLine
 own_function region own.EraseToStartOfLine = xterm.EraseToStartOfLine
+own_function region own.EraseToEndOfDisplay = xterm.EraseToEndOfDisplay
+own_function region own.EraseToStartOfDisplay = xterm.EraseToStartOfDisplay
 own_function region own.LineFeed = xterm.LineFeed region
 own_function region own.NextLine = xterm.NextLine region
 own_function region own.ReverseIndex = xterm.ReverseIndex region
@@ -67,14 +75,28 @@ own_function region (own.ScrollDown n) = xterm.ScrollDown region n
 own_function region (own.InsertLines n) = xterm.InsertLines region n
 own_function region (own.DeleteLines n) = xterm.DeleteLines region n
 
+-- a function of the two screens; and how modes become others
+abbrev pub screen_function : ScreenFunction → screens.ScreenFunction
+screen_function switch.SaveCursor = screens.SaveCursor
+screen_function switch.RestoreCursor = screens.RestoreCursor
+screen_function switch.ShowOther = screens.ShowOther
+screen_function switch.ClearAndShowOther = screens.ClearAndShowOther
+screen_function switch.SaveAndClear = screens.SaveAndClear
+screen_function switch.SaveAndShowCleared = screens.SaveAndShowCleared
+screen_function switch.ShowAndRestore = screens.ShowAndRestore
+
+abbrev pub setting_of : Setting → request.Setting
+setting_of set.Initial = request.ToInitial
+setting_of (set.Region top bottom) = request.ToRegion (record { top = top; bottom = bottom })
+setting_of (set.Origin origin) = request.ToOrigin origin
+
 -- what is asked for, and nothing or something, as a function's answer
 abbrev pub asked_for : Region → Request → request.Request
 asked_for region (asked.Table function) = request.Table (table_function function)
 asked_for region (asked.Xterm function) = request.Xterm (own_function region function)
-asked_for region (asked.Margins top bottom) =
-    request.Sets (record { region = Some (record { top = top; bottom = bottom }) })
-    (table.Moves (table.ToPosition 1 1))
-asked_for region asked.FullReset = request.Sets initial_modes table.FullReset
+asked_for region (asked.Sets setting function) = request.Sets (setting_of setting) (table_function function)
+asked_for region (asked.Switches function) = request.Switches (screen_function function)
+asked_for region (asked.Report row column) = request.Replies (position_text row column)
 
 abbrev pub maybe_asked : Region → Option Request → Option request.Request
 maybe_asked region found = option_map (asked_for region) found

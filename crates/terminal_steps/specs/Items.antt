@@ -1,5 +1,5 @@
 -- A parser's items as events, and what they do to the state that a terminal keeps.
-use Rattle.std.specs.Prelude.{◌≡◌, ◌<◌, ◌^◌, ℕ, Bool, false, List, [], ◌∷◌, ◌++◌, Option, None, map, fold}
+use Rattle.std.specs.Prelude.{◌≡◌, ◌<◌, ◌^◌, ℕ, Bool, false, List, [], ◌∷◌, ◌++◌, Option, map, fold}
 use Rattle.cell_surface.specs.declared.error.SurfaceError.{SurfaceError}
 use Rattle.cell_surface.specs.declared.error.SurfaceError.TheVariants as refusal
 use Rattle.screen_log.specs.LogSteps.{Sized, step_of_kept}

@@ -7,4 +7,5 @@ pub mod Memory
 pub mod Refusals
 pub mod Items
 pub mod Cursor
+pub mod Switches
 pub mod CarriesOut

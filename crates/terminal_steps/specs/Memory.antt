@@ -10,8 +10,10 @@ use Rattle.terminal_table.specs.Functions.{RestoreCursor, ReportStatus, ReportPo
 use Rattle.terminal_table.specs.History.{Event, Act}
 use Rattle.terminal_table.specs.Logged.{event_logged, run_logged}
 use Rattle.terminal_table.specs.Meaning.{View, settled}
-use Rattle.terminal_table.specs.Request.{Request, Table, Xterm, Sets}
+use Rattle.terminal_table.specs.Request.{Request, Table, Xterm, Sets, Switches, Replies}
 use Rattle.terminal_table.specs.Requests.{request_of}
+use Rattle.terminal_table.specs.Screens.{ScreenFunction}
+use Rattle.terminal_table.specs.Screens as screens
 use Rattle.terminal_table.specs.State.{State}
 use Rattle.xterm_steps.specs.Additions.{IsChangeRefused}
 use Rattle.terminal_steps.specs.Events.{IsReady, view_of}
@@ -47,17 +49,24 @@ keeps _ = false
 
 -- Beside its changes an action takes memory for a text or a pen that its control function copies, or for the row that a
 -- function of xterm's own copies, if the number after the current one fits in 64 bits; or for a cursor or a reply that
--- it keeps, if the current number does.
+-- it keeps, or for one that is given, if the current number does.
 abbrev pub TakesTableMemory : Option ControlFunction → ℕ → Type 0
 TakesTableMemory None number = ⊥
 TakesTableMemory (Some function) number =
     ((copies function ≡ true) × (number + 1 < 2 ^ 64)) ⊎ ((keeps function ≡ true) × (number < 2 ^ 64))
 
+-- a function of the two screens copies a cursor or rows: where it adds changes, if the number after the current one fits
+abbrev pub TakesScreenMemory : ScreenFunction → ℕ → Type 0
+TakesScreenMemory screens.SaveCursor number = number < 2 ^ 64
+TakesScreenMemory function number = number + 1 < 2 ^ 64
+
 abbrev pub TakesOwnMemory : Option Request → ℕ → Type 0
 TakesOwnMemory None number = ⊥
 TakesOwnMemory (Some (Table function)) number = TakesTableMemory (Some function) number
 TakesOwnMemory (Some (Xterm function)) number = number + 1 < 2 ^ 64
-TakesOwnMemory (Some (Sets modes function)) number = TakesTableMemory (Some function) number
+TakesOwnMemory (Some (Sets setting function)) number = TakesTableMemory (Some function) number
+TakesOwnMemory (Some (Switches function)) number = TakesScreenMemory function number
+TakesOwnMemory (Some (Replies text)) number = number < 2 ^ 64
 
 -- what an action asks for in a state
 abbrev pub asked_in : State → StreamAction → Option Request

@@ -1,10 +1,14 @@
 -- The modes of a terminal: those of a profile at first, and those that a terminal keeps.
-use Rattle.std.specs.Prelude.{Option, Some, None}
-use Rattle.terminal_steps.specs.declared.profile.Modes.TheInside.{Inside}
-use Rattle.terminal_steps.specs.declared.profile.Region.TheInside as region
+use Rattle.std.specs.Prelude.{⊤, All, Option, Some, None, option_map}
+use Rattle.cell_base.specs.WholeRow.{IsWhole}
+use Rattle.screen_difference.specs.FreshCells.{rows_of}
+use Rattle.terminal_steps.specs.declared.profile.Modes as code
+use Rattle.terminal_steps.specs.declared.profile.OtherScreen as code_other
 use Rattle.terminal_steps.specs.declared.profile.Profile.{Profile}
 use Rattle.terminal_steps.specs.declared.profile.Profile.TheVariants as profile
-use Rattle.terminal_table.specs.Modes.{Modes, Region, initial_modes}
+use Rattle.terminal_steps.specs.declared.profile.Region.TheInside as region
+use Rattle.terminal_steps.specs.declared.profile.SavedModes as code_saved
+use Rattle.terminal_table.specs.Modes.{Modes, OtherScreen, Region, SavedModes, initial_modes}
 
 -- a plain terminal has none
 abbrev pub modes_of : Profile → Option Modes
@@ -14,5 +18,29 @@ modes_of profile.Xterm = Some initial_modes
 abbrev pub region_in : region.Inside → Region
 region_in inside = record { top = inside.top; bottom = inside.bottom }
 
-abbrev pub modes_in : Inside → Modes
-modes_in inside = record { region = inside.region }
+abbrev pub saved_modes_in : code_saved.SavedModes → SavedModes
+saved_modes_in saved = record { pending = saved.pending; origin = saved.origin }
+
+abbrev pub other_in : code_other.OtherScreen → OtherScreen
+other_in other = record {
+  rows = rows_of other.lines.items;
+  cursor = other.cursor;
+  with_cursor = saved_modes_in other.with_cursor;
+}
+
+abbrev pub modes_in : code.Modes → Modes
+modes_in modes = record {
+  region = modes.region;
+  origin = modes.origin;
+  alternate = modes.alternate;
+  with_cursor = saved_modes_in modes.with_cursor;
+  other = other_in modes.other;
+}
+
+abbrev pub kept_modes : Option code.Modes → Option Modes
+kept_modes modes = option_map modes_in modes
+
+-- the rows of the screen that is not shown are whole
+abbrev pub HaveWholeRows : Option Modes → Type 0
+HaveWholeRows None = ⊤
+HaveWholeRows (Some modes) = All IsWhole modes.other.rows

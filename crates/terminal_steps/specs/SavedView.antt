@@ -1,5 +1,5 @@
 -- What a `SavedCursor` holds.
-use Rattle.terminal_table.specs.State.{SavedCursor}
+use Rattle.terminal_table.specs.Modes.{SavedCursor}
 use Rattle.terminal_steps.specs.declared.saved.SavedCursor.TheInside.{Inside}
 
 abbrev pub saved_of : Inside → SavedCursor

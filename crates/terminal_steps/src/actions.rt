@@ -7,14 +7,15 @@ ghost use Rattle.cell_surface.specs.Surface.{number_of, shown_by};
 ghost use Rattle.escape_stream.specs.StreamActionView.{value_of};
 ghost use Rattle.terminal_table.specs.Changes.{changes, changes_of, run_change, visibility};
 ghost use Rattle.terminal_table.specs.Functions.{function_of};
-ghost use Rattle.terminal_table.specs.Modes.{Modes};
-ghost use Rattle.terminal_table.specs.Requests.{acted, acted_changes, own_request, request_of};
+ghost use Rattle.terminal_table.specs.Modes.{Modes as TableModes};
+ghost use Rattle.terminal_table.specs.Request.{modes_set};
 ghost use Rattle.terminal_table.specs.Steps.{reply_step, saved_step, step_of};
 ghost use Rattle.xterm_steps.specs.Additions.{AddsAll, AddsWith, IsChangeRefused};
-ghost use Rattle.terminal_steps.specs.CarriesOut.{AppliesXterm, CarriesOut};
+ghost use Rattle.terminal_steps.specs.CarriesOut.{Applies, CarriesOut};
 ghost use Rattle.terminal_steps.specs.TerminalStates.{state_of};
-ghost use Rattle.terminal_steps.specs.FunctionView.{asked_for, table_function};
-ghost use Rattle.terminal_steps.specs.Memory.{TakesOwnMemory, TakesTableMemory, copies, keeps};
+ghost use Rattle.terminal_steps.specs.FunctionView.{asked_for, setting_of, table_function};
+ghost use Rattle.terminal_steps.specs.ProfileView.{kept_modes, modes_in};
+ghost use Rattle.terminal_steps.specs.Memory.{TakesTableMemory, copies, keeps};
 
 use crate::changes::{add, add_attribute, add_nothing, add_run, add_text};
 use crate::control_functions::control_function_of;
@@ -23,17 +24,19 @@ use crate::erase::{
     erase_display, erase_line, erase_to_end_of_display, erase_to_end_of_line, reverse_index,
     scroll_down, scroll_up,
 };
-use crate::function::{ControlFunction, Move};
+use crate::function::ControlFunction;
 use crate::pen::render;
-use crate::profile::{Modes, Region, region_on};
-use crate::replies::{report_position, report_status};
-use crate::requests::{Request, xterm_request};
+use crate::profile::{Modes, Region, initial_modes, region_on};
+use crate::replies::{report, report_position, report_status};
+use crate::requests::{Request, Setting, xterm_request};
 use crate::saved::{SavedCursor, full_reset, restore_cursor, save_cursor};
+use crate::screens::switch_screens;
 use crate::xterm::perform_xterm;
 use cell_base::{AttributeChange, CursorVisibility, Widths};
 use cell_surface::{Surface, SurfaceError};
 use escape_stream::Action;
 use screen_change::Change;
+use std::alloc::Global;
 
 // Whether the cursor is shown, as a change.
 fn visibility(shown: bool) -> CursorVisibility
@@ -154,22 +157,22 @@ fn apply_table<W: Widths + Drop>(
     action: Action,
 ) -> Result<(), SurfaceError>
     requires stays { surface.old.is_failed ≡ false }
-    ensures added { (modes : Option Modes) → IfOk result
+    ensures added { (modes : Option TableModes) → IfOk result
         (λ _. AddsAll (λ w. W.width_of w) surface.old surface.new
         (changes_of (function_of (value_of action)) (state_of surface.old saved.old replies.old.items modes))) }
-    ensures saved { (modes : Option Modes) → IfOk result
+    ensures saved { (modes : Option TableModes) → IfOk result
         (λ _. saved.new
         ≡ (step_of (function_of (value_of action)) (state_of surface.old saved.old replies.old.items modes)).saved) }
-    ensures replies { (modes : Option Modes) → IfOk result
+    ensures replies { (modes : Option TableModes) → IfOk result
         (λ _. replies.new.items
         ≡ (step_of (function_of (value_of action)) (state_of surface.old saved.old replies.old.items modes)).replies) }
     ensures failed { IsErrOf result SurfaceError.Failed → ⊥ }
-    ensures numbers { (modes : Option Modes) → IsErrOf result SurfaceError.Number
+    ensures numbers { (modes : Option TableModes) → IsErrOf result SurfaceError.Number
         → 2 ^ 64
         ≤ number_of surface.old
         + length
         (changes_of (function_of (value_of action)) (state_of surface.old saved.old replies.old.items modes)) }
-    ensures memory { (modes : Option Modes) → IsErrOf result SurfaceError.Memory → number_of surface.old < 2 ^ 64
+    ensures memory { (modes : Option TableModes) → IsErrOf result SurfaceError.Memory → number_of surface.old < 2 ^ 64
         → TakesTableMemory (function_of (value_of action)) (number_of surface.old)
         ⊎ IsChangeRefused
         (changes_of (function_of (value_of action)) (state_of surface.old saved.old replies.old.items modes))
@@ -182,79 +185,68 @@ fn apply_table<W: Widths + Drop>(
     }
 }
 
-// Does what the table has for an action for which xterm itself has nothing, and returns the modes.
-fn apply_other<W: Widths + Drop>(
-    surface: &mut Surface<W>,
-    saved: &mut Option<SavedCursor>,
-    replies: &mut Vec<u8>,
-    modes: Modes,
-    action: Action,
-) -> Result<Modes, SurfaceError>
-    requires stays { surface.old.is_failed ≡ false }
-    requires other { None ≡ own_request (Some modes) (shown_by surface.old).screen (value_of action) }
-    ensures { AppliesXterm (λ w. W.width_of w) (state_of surface.old saved.old replies.old.items (Some modes))
-        (value_of action) surface.old result surface.new saved.new replies.new.items }
+// The modes become others.
+fn set_modes(alloc: Global, modes: &mut Modes, setting: Setting)
+    ensures { modes_in modes.new ≡ modes_set (setting_of setting) (modes_in modes.old) }
 {
-    apply_table(surface, saved, replies, action)?;
-    Ok(modes)
+    match setting {
+        Setting::Initial => *modes = initial_modes(alloc),
+        Setting::Region(top, bottom) => modes.region = Some(Region { top, bottom }),
+        Setting::Origin(origin) => modes.origin = origin,
+    }
 }
 
-// Does what xterm itself has for an action, and returns the modes after it.
+// Does what xterm itself has for an action.
 fn carry_out_request<W: Widths + Drop>(
     surface: &mut Surface<W>,
     saved: &mut Option<SavedCursor>,
     replies: &mut Vec<u8>,
-    modes: Modes,
+    modes: &mut Modes,
     region: Region,
     request: Request,
-) -> Result<Modes, SurfaceError>
+) -> Result<(), SurfaceError>
     requires stays { surface.old.is_failed ≡ false }
     requires order { region.top ≤ region.bottom }
     requires within { region.bottom < height (shown_by surface.old).screen }
-    ensures { CarriesOut (λ w. W.width_of w) (state_of surface.old saved.old replies.old.items (Some modes))
-        (asked_for region request) surface.old result surface.new saved.new replies.new.items }
+    ensures { CarriesOut (λ w. W.width_of w)
+        (state_of surface.old saved.old replies.old.items (Some (modes_in modes.old))) (asked_for region request)
+        surface.old result surface.new saved.new replies.new.items (Some (modes_in modes.new)) }
 {
+    let alloc = *replies.allocator();
     match request {
-        Request::Table(function) => {
+        Request::Table(function) => carry_out(surface, saved, replies, function),
+        Request::Xterm(function) => perform_xterm(alloc, surface, region, function),
+        Request::Sets(setting, function) => {
             carry_out(surface, saved, replies, function)?;
-            Ok(modes)
+            set_modes(alloc, modes, setting);
+            Ok(())
         }
-        Request::Xterm(function) => {
-            let alloc = *replies.allocator();
-            perform_xterm(alloc, surface, region, function)?;
-            Ok(modes)
-        }
-        Request::Margins(top, bottom) => {
-            let home = ControlFunction::Moves(Move::ToPosition(1, 1));
-            carry_out(surface, saved, replies, home)?;
-            Ok(Modes {
-                region: Some(Region { top, bottom }),
-            })
-        }
-        Request::FullReset => {
-            carry_out(surface, saved, replies, ControlFunction::FullReset)?;
-            Ok(Modes { region: None })
+        Request::Switches(function) => switch_screens(alloc, surface, saved, modes, function),
+        Request::Report(row, column) => {
+            report(row, column, replies)?;
+            Ok(())
         }
     }
 }
 
-// Does what the profile xterm has for an action, on a surface that hasn't failed, and returns the modes after it; apart
-// from the walk, which a plain terminal shares.
+// Does what the profile xterm has for an action, on a surface that hasn't failed; apart from the walk, which a plain
+// terminal shares.
 #[inline(never)]
 fn apply_xterm<W: Widths + Drop>(
     surface: &mut Surface<W>,
     saved: &mut Option<SavedCursor>,
     replies: &mut Vec<u8>,
-    modes: Modes,
+    modes: &mut Modes,
     action: Action,
-) -> Result<Modes, SurfaceError>
+) -> Result<(), SurfaceError>
     requires stays { surface.old.is_failed ≡ false }
-    ensures { AppliesXterm (λ w. W.width_of w) (state_of surface.old saved.old replies.old.items (Some modes))
-        (value_of action) surface.old result surface.new saved.new replies.new.items }
+    ensures { Applies (λ w. W.width_of w)
+        (state_of surface.old saved.old replies.old.items (Some (modes_in modes.old))) (value_of action) surface.old
+        result surface.new saved.new replies.new.items (Some (modes_in modes.new)) }
 {
     let region = region_on(modes, surface);
     match xterm_request(modes, region, surface, &action) {
-        None => apply_other(surface, saved, replies, modes, action),
+        None => apply_table(surface, saved, replies, action),
         Some(request) => carry_out_request(surface, saved, replies, modes, region, request),
     }
 }
@@ -273,39 +265,18 @@ pub(crate) fn apply<W: Widths + Drop>(
     modes: &mut Option<Modes>,
     action: Action,
 ) -> Result<(), SurfaceError>
-    ensures added { IfOk result
-        (λ _. AddsAll (λ w. W.width_of w) surface.old surface.new
-        (acted_changes (value_of action) (state_of surface.old saved.old replies.old.items modes.old))) }
-    ensures saved { IfOk result
-        (λ _. saved.new
-        ≡ (acted (value_of action) (state_of surface.old saved.old replies.old.items modes.old)).saved) }
-    ensures replies { IfOk result
-        (λ _. replies.new.items
-        ≡ (acted (value_of action) (state_of surface.old saved.old replies.old.items modes.old)).replies) }
-    ensures modes { IfOk result
-        (λ _. modes.new
-        ≡ (acted (value_of action) (state_of surface.old saved.old replies.old.items modes.old)).modes) }
-    ensures failed { IsErrOf result SurfaceError.Failed ↔ (surface.old.is_failed ≡ true) }
-    ensures numbers { IsErrOf result SurfaceError.Number
-        → 2 ^ 64
-        ≤ number_of surface.old
-        + length (acted_changes (value_of action) (state_of surface.old saved.old replies.old.items modes.old)) }
-    ensures memory { IsErrOf result SurfaceError.Memory → number_of surface.old < 2 ^ 64
-        → TakesOwnMemory (request_of modes.old (shown_by surface.old).screen (value_of action)) (number_of surface.old)
-        ⊎ IsChangeRefused
-        (acted_changes (value_of action) (state_of surface.old saved.old replies.old.items modes.old))
-        (number_of surface.old) surface.new.is_failed }
-    ensures fits { OnOk result (number_of surface.old < 2 ^ 64 → number_of surface.new < 2 ^ 64) }
+    ensures failed { surface.old.is_failed ≡ true → IsErrOf result SurfaceError.Failed }
+    ensures done { surface.old.is_failed ≡ false
+        → Applies (λ w. W.width_of w)
+        (state_of surface.old saved.old replies.old.items (kept_modes modes.old)) (value_of action) surface.old
+        result surface.new saved.new replies.new.items (kept_modes modes.new) }
 {
     if surface.is_failed() {
         return Err(SurfaceError::Failed);
     }
-    match *modes {
+    match modes {
         None => apply_table(surface, saved, replies, action),
-        Some(now) => {
-            *modes = Some(apply_xterm(surface, saved, replies, now, action)?);
-            Ok(())
-        }
+        Some(modes) => apply_xterm(surface, saved, replies, modes, action),
     }
 }
 

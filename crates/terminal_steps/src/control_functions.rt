@@ -64,9 +64,9 @@ fn of_cursor(cursor: Cursor) -> Option<ControlFunction>
         Cursor::CharacterAbsolute(column) | Cursor::CharacterPositionAbsolute(column) => {
             Move::ToColumn(column.as_one_based())
         }
-        Cursor::LinePositionAbsolute(line) => Move::ToLine(line),
+        Cursor::LinePositionAbsolute(line) => Move::ToLine(line as usize),
         Cursor::Position { line, col } | Cursor::CharacterAndLinePosition { line, col } => {
-            Move::ToPosition(line.as_one_based(), col.as_one_based())
+            Move::ToPosition(line.as_one_based() as usize, col.as_one_based())
         }
         Cursor::SaveCursor => return Some(ControlFunction::SaveCursor),
         Cursor::RestoreCursor => return Some(ControlFunction::RestoreCursor),

@@ -58,11 +58,8 @@ fn position_of(
         Move::NextLine(n) => (0, row.saturating_add(n as usize)),
         Move::PrecedingLine(n) => (0, row.saturating_sub(n as usize)),
         Move::ToColumn(name) => ((name as usize).saturating_sub(1), row),
-        Move::ToLine(name) => (column, (name as usize).saturating_sub(1)),
-        Move::ToPosition(line, name) => (
-            (name as usize).saturating_sub(1),
-            (line as usize).saturating_sub(1),
-        ),
+        Move::ToLine(name) => (column, name.saturating_sub(1)),
+        Move::ToPosition(line, name) => ((name as usize).saturating_sub(1), line.saturating_sub(1)),
     };
     (column.min(last_column), row.min(last_row))
 }

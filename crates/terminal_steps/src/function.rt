@@ -27,9 +27,9 @@ pub(crate) enum Move {
     /// CHA (CSI G), HPA (CSI and a backquote): moves the cursor to a column.
     ToColumn(u32),
     /// VPA (CSI d): moves the cursor to a line.
-    ToLine(u32),
+    ToLine(usize),
     /// CUP (CSI H), HVP (CSI f): moves the cursor to a line and a column.
-    ToPosition(u32, u32),
+    ToPosition(usize, u32),
 }
 
 /// A control function, with its counts, texts and other parameters.

@@ -17,6 +17,7 @@
 //! - `replies`: replies to the application, which asks for them by DSR.
 //! - `requests`: what the profile xterm has for an action, where that differs from the table.
 //! - `saved`: saved cursors (DECSC, DECRC, SCOSC, SCORC) and the full reset (RIS).
+//! - `screens`: saved cursors of the profile xterm, and its two screens, of which one is shown.
 //! - `state`: the state that a terminal keeps beside its parser, and its changes by events.
 //! - `text_runs`: runs of text, and the performer that the parser calls: a text joins the held run, and other
 //!   actions end it.
@@ -37,6 +38,7 @@ mod profile;
 mod replies;
 mod requests;
 mod saved;
+mod screens;
 mod state;
 mod text_runs;
 mod xterm;

@@ -1,12 +1,21 @@
 //! The profiles of a terminal, and what a terminal keeps for its profile.
-ghost use Rattle.std.specs.Prelude.{◌≡◌, ◌<◌, ◌≤◌, false, option_map};
+ghost use Rattle.std.specs.Prelude.{◌≡◌, ◌<◌, ◌≤◌, ◌-◌, ◌++◌, false, length, map, option_map, replicate, All, IfOk};
+ghost use Rattle.std.specs.Prelude.{OnOk};
+ghost use Rattle.cell_base.specs.Row.{plain_row};
 ghost use Rattle.cell_base.specs.Screen.{height};
+ghost use Rattle.cell_base.specs.WholeRow.{IsWhole};
+ghost use Rattle.cell_line.specs.LineCalls.{resize};
 ghost use Rattle.cell_surface.specs.Surface.{shown_by};
-ghost use Rattle.terminal_table.specs.Modes.{region_on, resized_modes};
-ghost use Rattle.terminal_steps.specs.ProfileView.{modes_of};
+ghost use Rattle.screen_difference.specs.FreshCells.{rows_of};
+ghost use Rattle.terminal_table.specs.Modes.{initial_modes, region_on, resized_modes, resized_rows, unsaved_modes};
+ghost use Rattle.terminal_steps.specs.ProfileView.{HaveWholeRows, kept_modes, modes_in, modes_of, saved_modes_in};
 
-use cell_base::Widths;
+use crate::saved::SavedCursor;
+use cell_base::{SEQ_ZERO, Widths};
+use cell_line::Line;
+use cell_line::row_writing::with_width_clustered;
 use cell_surface::Surface;
+use std::alloc::{AllocError, Global};
 use std::marker::Model;
 
 /// Which control functions a terminal has, and what they do.
@@ -15,8 +24,9 @@ pub enum Profile {
     /// The functions of the terminal's table. A program must run under the project's own terminal description.
     Plain,
     /// The functions of xterm, for programs that run under `xterm-256color`. It is being built up: it has the functions
-    /// of the table; ECH, ICH, DCH, EL 1, IL and DL; and margins (DECSTBM), at which LF, IND, NEL, RI, SU, SD and the
-    /// moves of the cursor by rows stop or scroll. A run of text scrolls the whole screen still.
+    /// of the table; ECH, ICH, DCH, EL 1, ED 1, IL and DL; margins (DECSTBM), at which LF, IND, NEL, RI, SU, SD and the
+    /// moves of the cursor by rows stop or scroll; DECOM; the alternate screen (DEC modes 47, 1047 and 1049); and a
+    /// saved cursor for each screen (also mode 1048). A run of text scrolls the whole screen still.
     Xterm,
 }
 
@@ -39,49 +49,153 @@ impl Model for Region {
     ghost inverse = { λ region. record { top = region.top; bottom = region.bottom } };
 }
 
-/// What the profile xterm keeps beside the screen.
+/// What the profile xterm saves with a cursor.
 #[derive(Clone, Copy, Debug)]
+pub(crate) struct SavedModes {
+    /// Whether a wrap was pending.
+    pub(crate) pending: bool,
+    /// Whether lines counted from the region's top.
+    pub(crate) origin: bool,
+}
+
+/// The screen that is not shown.
+#[derive(Drop)]
+pub(crate) struct OtherScreen {
+    /// Its rows; none as long as they are plain blanks.
+    pub(crate) lines: Vec<Line>,
+    /// The cursor that was saved on it.
+    pub(crate) cursor: Option<SavedCursor>,
+    pub(crate) with_cursor: SavedModes,
+}
+
+/// What the profile xterm keeps beside the screen that is shown.
+#[derive(Drop)]
 pub struct Modes {
     /// The region that DECSTBM has set; none where all rows scroll.
     pub(crate) region: Option<Region>,
+    /// Whether lines count from the region's top (DECOM).
+    pub(crate) origin: bool,
+    /// Whether the alternate screen is shown.
+    pub(crate) alternate: bool,
+    /// What was saved with the cursor that was saved on the screen shown.
+    pub(crate) with_cursor: SavedModes,
+    pub(crate) other: OtherScreen,
 }
 
-impl Model for Modes {
-    ghost use Rattle.terminal_table.specs.Modes.{Modes as Value_of};
-
-    ghost Value = { Value_of };
-
-    ghost use Rattle.terminal_steps.specs.ProfileView.{modes_in};
-
-    ghost view = { modes_in };
-
-    ghost inverse = { λ modes. record { region = modes.region } };
-}
-
-/// The modes of a new terminal; none on a plain one.
-pub(crate) fn modes_of(profile: Profile) -> Option<Modes>
-    ensures { result ≡ modes_of profile }
+// Where nothing was saved.
+fn unsaved_modes() -> SavedModes
+    ensures { saved_modes_in result ≡ unsaved_modes }
 {
-    match profile {
-        Profile::Plain => None,
-        Profile::Xterm => Some(Modes { region: None }),
+    SavedModes {
+        pending: false,
+        origin: false,
     }
 }
 
-/// The modes, if there are any, of a screen that has got another size.
-pub(crate) fn resized_modes(modes: Option<Modes>) -> Option<Modes>
-    ensures { result ≡ option_map resized_modes modes }
+/// The modes of a new terminal.
+pub(crate) fn initial_modes(alloc: Global) -> Modes
+    ensures { modes_in result ≡ initial_modes }
+{
+    Modes {
+        region: None,
+        origin: false,
+        alternate: false,
+        with_cursor: unsaved_modes(),
+        other: OtherScreen {
+            lines: Vec::new(alloc),
+            cursor: None,
+            with_cursor: unsaved_modes(),
+        },
+    }
+}
+
+/// The modes of a new terminal of a profile; none on a plain one.
+pub(crate) fn modes_of(alloc: Global, profile: Profile) -> Option<Modes>
+    ensures { kept_modes result ≡ modes_of profile }
+{
+    match profile {
+        Profile::Plain => None,
+        Profile::Xterm => Some(initial_modes(alloc)),
+    }
+}
+
+// Copies of lines, of another width.
+fn widened_lines(alloc: Global, lines: &[Line], width: usize) -> Result<Vec<Line>, AllocError>
+    ensures { IfOk result (λ copies. copies.items ≡ map (λ line. resize line width 0) lines.now) }
+{
+    let mut copies = Vec::new(alloc);
+    for line in lines {
+        let mut copy = line.try_clone()?;
+        copy.resize(width, SEQ_ZERO)?;
+        copies.push(copy)?;
+    }
+    Ok(copies)
+}
+
+/// Lines of plain blanks are appended, up to a count of lines.
+pub(crate) fn add_lines(
+    alloc: Global,
+    lines: &mut Vec<Line>,
+    width: usize,
+    count: usize,
+) -> Result<(), AllocError>
+    requires { length lines.old.items ≤ count }
+    ensures { OnOk result
+        (rows_of lines.new.items
+        ≡ rows_of lines.old.items ++ replicate (count - length lines.old.items) (plain_row width)) }
+{
+    for _ in lines.len()..count {
+        lines.push(with_width_clustered(alloc, width, SEQ_ZERO))?;
+    }
+    Ok(())
+}
+
+// Lines of another size, as those of a screen that gets it; none stay none.
+fn resize_lines(
+    alloc: Global,
+    lines: &mut Vec<Line>,
+    width: usize,
+    height: usize,
+) -> Result<(), AllocError>
+    ensures { OnOk result
+        (All IsWhole (rows_of lines.old.items)
+        → rows_of lines.new.items ≡ resized_rows width height (rows_of lines.old.items)) }
+{
+    if lines.is_empty() {
+        return Ok(());
+    }
+    lines.truncate(height);
+    let mut resized = widened_lines(alloc, lines, width)?;
+    add_lines(alloc, &mut resized, width, height)?;
+    *lines = resized;
+    Ok(())
+}
+
+/// The modes, if there are any, of a screen that has got another size: all its rows scroll. A refusal may leave the
+/// other screen with fewer rows.
+pub(crate) fn resize_modes(
+    alloc: Global,
+    modes: &mut Option<Modes>,
+    width: usize,
+    height: usize,
+) -> Result<(), AllocError>
+    ensures { OnOk result
+        (HaveWholeRows (kept_modes modes.old)
+        → kept_modes modes.new ≡ option_map (resized_modes width height) (kept_modes modes.old)) }
 {
     match modes {
-        None => None,
-        Some(_) => Some(Modes { region: None }),
+        None => Ok(()),
+        Some(modes) => {
+            modes.region = None;
+            resize_lines(alloc, &mut modes.other.lines, width, height)
+        }
     }
 }
 
 /// The region that scrolls on a surface.
-pub(crate) fn region_on<W: Widths + Drop>(modes: Modes, surface: &Surface<W>) -> Region
+pub(crate) fn region_on<W: Widths + Drop>(modes: &Modes, surface: &Surface<W>) -> Region
     requires stays { surface.now.is_failed ≡ false }
-    ensures region { result ≡ region_on modes (shown_by surface.now).screen }
+    ensures region { result ≡ region_on (modes_in modes.now) (shown_by surface.now).screen }
     ensures order { result.top ≤ result.bottom }
     ensures within { result.bottom < height (shown_by surface.now).screen }
 {

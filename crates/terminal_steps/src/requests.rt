@@ -1,34 +1,60 @@
 //! What the profile xterm has for an action, where that differs from the table.
-ghost use Rattle.std.specs.Prelude.{◌≡◌, ◌≤◌, false};
+ghost use Rattle.std.specs.Prelude.{◌≡◌, ◌≤◌, ◌<◌, ◌+◌, ◌^◌, ℕ, false, not};
+ghost use Rattle.cell_base.specs.Screen.{height};
 ghost use Rattle.cell_surface.specs.Surface.{shown_by};
 ghost use Rattle.escape_stream.specs.Controls.{control_number};
 ghost use Rattle.escape_stream.specs.StreamActionView.{value_of};
-ghost use Rattle.terminal_steps.specs.FunctionView.{asked_for, maybe_asked};
+ghost use Rattle.terminal_steps.specs.FunctionView.{asked_for, maybe_asked, screen_function, table_function};
+ghost use Rattle.terminal_steps.specs.ProfileView.{modes_in};
 ghost use Rattle.terminal_table.specs.Modes.{region_on};
-ghost use Rattle.terminal_table.specs.XtermRequests.{control_request, cursor_request, edit_request, escape_request};
-ghost use Rattle.terminal_table.specs.XtermRequests.{feeds_plainly, is_default, is_pending, line_feed_request};
-ghost use Rattle.terminal_table.specs.XtermRequests.{margins_request, next_line_request, reverse_index_request};
-ghost use Rattle.terminal_table.specs.XtermRequests.{rows_above, rows_below, scroll_down_request, scroll_up_request};
-ghost use Rattle.terminal_table.specs.XtermRequests.{scrolls_plainly, where_between, xterm_request};
+ghost use Rattle.terminal_table.specs.Screens.{is_pending};
+ghost use Rattle.terminal_table.specs.XtermRequests.{alternate_function, control_request, cursor_request, edit_request};
+ghost use Rattle.terminal_table.specs.XtermRequests.{escape_request, feeds_plainly, home_function, is_default};
+ghost use Rattle.terminal_table.specs.XtermRequests.{line_feed_request, line_request, line_within, margins_request};
+ghost use Rattle.terminal_table.specs.XtermRequests.{mode_request, next_line_request, normal_function, origin_request};
+ghost use Rattle.terminal_table.specs.XtermRequests.{position_request, report_request, reset_request};
+ghost use Rattle.terminal_table.specs.XtermRequests.{reverse_index_request, rows_above, rows_below, rows_request};
+ghost use Rattle.terminal_table.specs.XtermRequests.{scroll_down_request, scroll_up_request, scrolls_plainly};
+ghost use Rattle.terminal_table.specs.XtermRequests.{set_request, where_between, where_origin, where_shown};
+ghost use Rattle.terminal_table.specs.XtermRequests.{xterm_request};
 
+use crate::cursor_moves::current_column;
 use crate::function::{ControlFunction, Move};
 use crate::profile::{Modes, Region};
+use crate::screens::ScreenFunction;
 use crate::xterm::XtermFunction;
 use cell_base::{ColorAttribute, Widths};
 use cell_surface::Surface;
-use csi_codec::{CSI, Cursor, Edit, EraseInLine, Esc, EscCode};
+use csi_codec::{
+    CSI, Cursor, DecPrivateMode, DecPrivateModeCode, Edit, EraseInDisplay, EraseInLine, Esc,
+    EscCode, Mode,
+};
 use escape_stream::{Action, ControlCode};
 
+/// How the modes become others.
+#[derive(Clone, Copy)]
+pub(crate) enum Setting {
+    /// As those of a new terminal.
+    Initial,
+    /// With a region from one row to another, counted from 0.
+    Region(usize, usize),
+    /// With lines that count from the region's top, or from the screen's.
+    Origin(bool),
+}
+
 /// What a terminal of the profile xterm is asked for.
+#[derive(Drop)]
 pub(crate) enum Request {
     /// A control function of the table.
     Table(ControlFunction),
     /// A function that only xterm has.
     Xterm(XtermFunction),
-    /// DECSTBM (CSI r): the region from one row to another scrolls, counted from 0, and the cursor goes home.
-    Margins(usize, usize),
-    /// RIS (ESC c): the full reset, after which all rows scroll.
-    FullReset,
+    /// A control function of the table, with which the modes become others.
+    Sets(Setting, ControlFunction),
+    /// A function of the two screens.
+    Switches(ScreenFunction),
+    /// CPR (CSI R): the row and the column, counted from 0.
+    Report(usize, usize),
 }
 
 // Whether a colour is the default.
@@ -41,8 +67,8 @@ fn is_default(color: ColorAttribute) -> bool
     }
 }
 
-// Whether a wrap is pending.
-fn is_pending<W: Widths + Drop>(surface: &Surface<W>) -> bool
+/// Whether a wrap is pending.
+pub(crate) fn is_pending<W: Widths + Drop>(surface: &Surface<W>) -> bool
     requires { surface.now.is_failed ≡ false }
     ensures { result ≡ is_pending (shown_by surface.now).screen }
 {
@@ -181,8 +207,107 @@ fn rows_below<W: Widths + Drop>(region: Region, surface: &Surface<W>, count: u32
     }
 }
 
+// What is asked for where lines count from the region's top.
+fn where_origin(modes: &Modes, region: Region, request: Request) -> Option<Request>
+    ensures { maybe_asked region result ≡ where_origin modes.now.origin (asked_for region request) }
+{
+    if modes.origin { Some(request) } else { None }
+}
+
+// The line of the screen, counted from 1, that a line of the region is.
+fn line_within<W: Widths + Drop>(region: Region, surface: &Surface<W>, line: u32) -> usize
+    requires stays { surface.now.is_failed ≡ false }
+    requires order { region.top ≤ region.bottom }
+    requires within { region.bottom < height (shown_by surface.now).screen }
+    ensures { result ≡ line_within region line }
+{
+    let (_, _height) = surface.dimensions();
+    region
+        .top
+        .saturating_add(line as usize)
+        .min(region.bottom + 1)
+}
+
+// CUP and HVP.
+fn position<W: Widths + Drop>(
+    modes: &Modes,
+    region: Region,
+    surface: &Surface<W>,
+    line: u32,
+    column: u32,
+) -> Option<Request>
+    requires stays { surface.now.is_failed ≡ false }
+    requires order { region.top ≤ region.bottom }
+    requires within { region.bottom < height (shown_by surface.now).screen }
+    ensures { maybe_asked region result ≡ position_request (modes_in modes.now) region line column }
+{
+    let movement = Move::ToPosition(line_within(region, surface, line), column);
+    where_origin(
+        modes,
+        region,
+        Request::Table(ControlFunction::Moves(movement)),
+    )
+}
+
+// VPA.
+fn line_position<W: Widths + Drop>(
+    modes: &Modes,
+    region: Region,
+    surface: &Surface<W>,
+    line: u32,
+) -> Option<Request>
+    requires stays { surface.now.is_failed ≡ false }
+    requires order { region.top ≤ region.bottom }
+    requires within { region.bottom < height (shown_by surface.now).screen }
+    ensures { maybe_asked region result ≡ line_request (modes_in modes.now) region line }
+{
+    let movement = Move::ToLine(line_within(region, surface, line));
+    where_origin(
+        modes,
+        region,
+        Request::Table(ControlFunction::Moves(movement)),
+    )
+}
+
+// DSR 6.
+fn report<W: Widths + Drop>(modes: &Modes, region: Region, surface: &Surface<W>) -> Option<Request>
+    requires stays { surface.now.is_failed ≡ false }
+    ensures { maybe_asked region result
+        ≡ report_request (modes_in modes.now) region (shown_by surface.now).screen }
+{
+    let (_, row) = surface.cursor_position();
+    let column = current_column(surface);
+    where_origin(
+        modes,
+        region,
+        Request::Report(row.saturating_sub(region.top), column),
+    )
+}
+
+// The cursor at home: in the row `top` where lines count from it, else in the screen's first row.
+fn home(origin: bool, top: usize) -> ControlFunction
+    requires { top + 1 < 2 ^ 64 }
+    ensures { (bottom : ℕ) → table_function result
+        ≡ home_function origin (record { top = top; bottom = bottom }) }
+{
+    let line = if origin { top + 1 } else { 1 };
+    ControlFunction::Moves(Move::ToPosition(line, 1))
+}
+
+// DECSET 6 and DECRST 6.
+fn set_origin<W: Widths + Drop>(region: Region, surface: &Surface<W>, origin: bool) -> Request
+    requires stays { surface.now.is_failed ≡ false }
+    requires order { region.top ≤ region.bottom }
+    requires within { region.bottom < height (shown_by surface.now).screen }
+    ensures { asked_for region result ≡ origin_request origin region }
+{
+    let (_, _height) = surface.dimensions();
+    Request::Sets(Setting::Origin(origin), home(origin, region.top))
+}
+
 // DECSTBM, with lines counted from 1.
 fn margins<W: Widths + Drop>(
+    modes: &Modes,
     region: Region,
     surface: &Surface<W>,
     top: u32,
@@ -190,15 +315,123 @@ fn margins<W: Widths + Drop>(
 ) -> Option<Request>
     requires stays { surface.now.is_failed ≡ false }
     requires first { 1 ≤ top }
-    ensures { maybe_asked region result ≡ margins_request (shown_by surface.now).screen top bottom }
+    ensures { maybe_asked region result
+        ≡ margins_request (modes_in modes.now) (shown_by surface.now).screen top bottom }
 {
     let (_, height) = surface.dimensions();
     let top = top as usize;
     let last = (bottom as usize).min(height);
     if top < last {
-        Some(Request::Margins(top - 1, last - 1))
+        let setting = Setting::Region(top - 1, last - 1);
+        Some(Request::Sets(setting, home(modes.origin, top - 1)))
     } else {
         None
+    }
+}
+
+// What is asked of the two screens, if anything is.
+fn where_shown(region: Region, shown: bool, function: ScreenFunction) -> Option<Request>
+    ensures { maybe_asked region result ≡ where_shown shown (screen_function function) }
+{
+    if shown {
+        Some(Request::Switches(function))
+    } else {
+        None
+    }
+}
+
+// DECSET 1049.
+fn alternate_function(alternate: bool) -> ScreenFunction
+    ensures { screen_function result ≡ alternate_function alternate }
+{
+    if alternate {
+        ScreenFunction::SaveAndClear
+    } else {
+        ScreenFunction::SaveAndShowCleared
+    }
+}
+
+// DECRST 1049.
+fn normal_function(alternate: bool) -> ScreenFunction
+    ensures { screen_function result ≡ normal_function alternate }
+{
+    if alternate {
+        ScreenFunction::ShowAndRestore
+    } else {
+        ScreenFunction::RestoreCursor
+    }
+}
+
+// Of a mode that is set.
+fn of_set<W: Widths + Drop>(
+    modes: &Modes,
+    region: Region,
+    surface: &Surface<W>,
+    code: DecPrivateModeCode,
+) -> Option<Request>
+    requires stays { surface.now.is_failed ≡ false }
+    requires order { region.top ≤ region.bottom }
+    requires within { region.bottom < height (shown_by surface.now).screen }
+    ensures { maybe_asked region result ≡ set_request (modes_in modes.now) region code }
+{
+    match code {
+        DecPrivateModeCode::OriginMode => Some(set_origin(region, surface, true)),
+        DecPrivateModeCode::EnableAlternateScreen | DecPrivateModeCode::OptEnableAlternateScreen =>
+            { where_shown(region, !modes.alternate, ScreenFunction::ShowOther) }
+        DecPrivateModeCode::SaveCursor => Some(Request::Switches(ScreenFunction::SaveCursor)),
+        DecPrivateModeCode::ClearAndEnableAlternateScreen => {
+            Some(Request::Switches(alternate_function(modes.alternate)))
+        }
+        _ => None,
+    }
+}
+
+// Of a mode that is reset.
+fn of_reset<W: Widths + Drop>(
+    modes: &Modes,
+    region: Region,
+    surface: &Surface<W>,
+    code: DecPrivateModeCode,
+) -> Option<Request>
+    requires stays { surface.now.is_failed ≡ false }
+    requires order { region.top ≤ region.bottom }
+    requires within { region.bottom < height (shown_by surface.now).screen }
+    ensures { maybe_asked region result ≡ reset_request (modes_in modes.now) region code }
+{
+    match code {
+        DecPrivateModeCode::OriginMode => Some(set_origin(region, surface, false)),
+        DecPrivateModeCode::EnableAlternateScreen => {
+            where_shown(region, modes.alternate, ScreenFunction::ShowOther)
+        }
+        DecPrivateModeCode::OptEnableAlternateScreen => {
+            where_shown(region, modes.alternate, ScreenFunction::ClearAndShowOther)
+        }
+        DecPrivateModeCode::SaveCursor => Some(Request::Switches(ScreenFunction::RestoreCursor)),
+        DecPrivateModeCode::ClearAndEnableAlternateScreen => {
+            Some(Request::Switches(normal_function(modes.alternate)))
+        }
+        _ => None,
+    }
+}
+
+// Of a mode: DECOM, and what switches screens.
+fn of_mode<W: Widths + Drop>(
+    modes: &Modes,
+    region: Region,
+    surface: &Surface<W>,
+    mode: Mode,
+) -> Option<Request>
+    requires stays { surface.now.is_failed ≡ false }
+    requires order { region.top ≤ region.bottom }
+    requires within { region.bottom < height (shown_by surface.now).screen }
+    ensures { maybe_asked region result ≡ mode_request (modes_in modes.now) region mode }
+{
+    match mode {
+        Mode::SetDecPrivateMode(DecPrivateMode::Code(code)) => of_set(modes, region, surface, code),
+        Mode::ResetDecPrivateMode(DecPrivateMode::Code(code)) => {
+            of_reset(modes, region, surface, code)
+        }
+        _ => None,
     }
 }
 
@@ -220,7 +453,7 @@ fn of_control<W: Widths + Drop>(
     }
 }
 
-// Of an ESC pair: IND, NEL, RI and RIS.
+// Of an ESC pair: IND, NEL, RI, RIS, DECSC and DECRC.
 fn of_escape<W: Widths + Drop>(
     region: Region,
     surface: &Surface<W>,
@@ -233,34 +466,78 @@ fn of_escape<W: Widths + Drop>(
         EscCode::Index => Some(line_feed(region, surface)),
         EscCode::NextLine => Some(next_line(region, surface)),
         EscCode::ReverseIndex => Some(reverse_index(region, surface)),
-        EscCode::FullReset => Some(Request::FullReset),
+        EscCode::FullReset => { Some(Request::Sets(Setting::Initial, ControlFunction::FullReset)) }
+        EscCode::DecSaveCursorPosition => Some(Request::Switches(ScreenFunction::SaveCursor)),
+        EscCode::DecRestoreCursorPosition => Some(Request::Switches(ScreenFunction::RestoreCursor)),
         _ => None,
     }
 }
 
-// Of a cursor sequence: CUU, CUD, CPL, CNL and DECSTBM.
-fn of_cursor<W: Widths + Drop>(
+// Of a move by rows that stops at a margin.
+fn of_rows<W: Widths + Drop>(
+    modes: &Modes,
     region: Region,
     surface: &Surface<W>,
     cursor: Cursor,
 ) -> Option<Request>
     requires { surface.now.is_failed ≡ false }
-    ensures { maybe_asked region result ≡ cursor_request region (shown_by surface.now).screen cursor }
+    ensures { maybe_asked region result ≡ rows_request (modes_in modes.now) region (shown_by surface.now).screen cursor }
 {
     let movement = match cursor {
         Cursor::Up(count) => Move::Up(rows_above(region, surface, count)),
         Cursor::Down(count) => Move::Down(rows_below(region, surface, count)),
         Cursor::PrecedingLine(count) => Move::PrecedingLine(rows_above(region, surface, count)),
         Cursor::NextLine(count) => Move::NextLine(rows_below(region, surface, count)),
-        Cursor::SetTopAndBottomMargins { top, bottom } => {
-            return margins(region, surface, top.as_one_based(), bottom.as_one_based());
+        Cursor::LinePositionBackward(count) if modes.origin => {
+            Move::Up(rows_above(region, surface, count))
+        }
+        Cursor::LinePositionForward(count) if modes.origin => {
+            Move::Down(rows_below(region, surface, count))
         }
         _ => return None,
     };
     Some(Request::Table(ControlFunction::Moves(movement)))
 }
 
-// Of an edit: ECH, ICH, DCH, EL 0 at a pending wrap, EL 1, SU, SD, IL and DL.
+// Of a cursor sequence.
+fn of_cursor<W: Widths + Drop>(
+    modes: &Modes,
+    region: Region,
+    surface: &Surface<W>,
+    cursor: Cursor,
+) -> Option<Request>
+    requires stays { surface.now.is_failed ≡ false }
+    requires order { region.top ≤ region.bottom }
+    requires within { region.bottom < height (shown_by surface.now).screen }
+    ensures { maybe_asked region result
+        ≡ cursor_request (modes_in modes.now) region (shown_by surface.now).screen cursor }
+{
+    match cursor {
+        Cursor::LinePositionAbsolute(line) => line_position(modes, region, surface, line),
+        Cursor::Position { line, col } | Cursor::CharacterAndLinePosition { line, col } => {
+            position(
+                modes,
+                region,
+                surface,
+                line.as_one_based(),
+                col.as_one_based(),
+            )
+        }
+        Cursor::SetTopAndBottomMargins { top, bottom } => margins(
+            modes,
+            region,
+            surface,
+            top.as_one_based(),
+            bottom.as_one_based(),
+        ),
+        Cursor::SaveCursor => Some(Request::Switches(ScreenFunction::SaveCursor)),
+        Cursor::RestoreCursor => Some(Request::Switches(ScreenFunction::RestoreCursor)),
+        Cursor::RequestActivePositionReport => report(modes, region, surface),
+        other => of_rows(modes, region, surface, other),
+    }
+}
+
+// Of an edit: ECH, ICH, DCH, EL 0 and ED 0 at a pending wrap, EL 1, ED 1, SU, SD, IL and DL.
 fn of_edit<W: Widths + Drop>(region: Region, surface: &Surface<W>, edit: Edit) -> Option<Request>
     requires { surface.now.is_failed ≡ false }
     ensures { maybe_asked region result ≡ edit_request region (shown_by surface.now).screen edit }
@@ -272,6 +549,12 @@ fn of_edit<W: Widths + Drop>(region: Region, surface: &Surface<W>, edit: Edit) -
         Edit::EraseInLine(EraseInLine::EraseToStartOfLine) => XtermFunction::EraseToStartOfLine,
         Edit::EraseInLine(EraseInLine::EraseToEndOfLine) if is_pending(surface) => {
             XtermFunction::EraseToEndOfLine
+        }
+        Edit::EraseInDisplay(EraseInDisplay::EraseToStartOfDisplay) => {
+            XtermFunction::EraseToStartOfDisplay
+        }
+        Edit::EraseInDisplay(EraseInDisplay::EraseToEndOfDisplay) if is_pending(surface) => {
+            XtermFunction::EraseToEndOfDisplay
         }
         Edit::ScrollUp(count) => return Some(scroll_up(region, surface, count)),
         Edit::ScrollDown(count) => return Some(scroll_down(region, surface, count)),
@@ -290,20 +573,24 @@ fn of_edit<W: Widths + Drop>(region: Region, surface: &Surface<W>, edit: Edit) -
 /// scrolls.
 #[tactic(auto, unfolding(terminal_table::specs::XtermRequests::xterm_request))]
 pub(crate) fn xterm_request<W: Widths + Drop>(
-    modes: Modes,
+    modes: &Modes,
     region: Region,
     surface: &Surface<W>,
     action: &Action,
 ) -> Option<Request>
     requires stays { surface.now.is_failed ≡ false }
-    requires region { region ≡ region_on modes (shown_by surface.now).screen }
-    ensures { maybe_asked region result ≡ xterm_request modes (shown_by surface.now).screen (value_of action.now) }
+    requires region { region ≡ region_on (modes_in modes.now) (shown_by surface.now).screen }
+    requires order { region.top ≤ region.bottom }
+    requires within { region.bottom < height (shown_by surface.now).screen }
+    ensures { maybe_asked region result
+        ≡ xterm_request (modes_in modes.now) (shown_by surface.now).screen (value_of action.now) }
 {
     match action {
         Action::Control(code) => of_control(region, surface, *code),
         Action::Esc(Esc::Code(code)) => of_escape(region, surface, *code),
-        Action::CSI(CSI::Cursor(cursor)) => of_cursor(region, surface, *cursor),
+        Action::CSI(CSI::Cursor(cursor)) => of_cursor(modes, region, surface, *cursor),
         Action::CSI(CSI::Edit(edit)) => of_edit(region, surface, *edit),
+        Action::CSI(CSI::Mode(mode)) => of_mode(modes, region, surface, *mode),
         _ => None,
     }
 }

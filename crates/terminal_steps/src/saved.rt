@@ -26,7 +26,7 @@ pub struct SavedCursor {
 }
 
 impl Model for SavedCursor {
-    ghost use Rattle.terminal_table.specs.State.{SavedCursor as Value_of};
+    ghost use Rattle.terminal_table.specs.Modes.{SavedCursor as Value_of};
 
     ghost Value = { Value_of };
 
@@ -58,8 +58,8 @@ pub(crate) fn save_cursor<W: Widths + Drop>(
     Ok(())
 }
 
-// A cursor that is restored; one at home with a plain pen, where none was saved.
-fn cursor_to_restore(saved: &Option<SavedCursor>) -> Result<SavedCursor, AllocError>
+/// A cursor that is restored; one at home with a plain pen, where none was saved.
+pub(crate) fn cursor_to_restore(saved: &Option<SavedCursor>) -> Result<SavedCursor, AllocError>
     ensures { IfOk result (λ cursor. cursor ≡ cursor_to_restore saved.now) }
 {
     match saved {

@@ -13,7 +13,7 @@ ghost use Rattle.terminal_steps.specs.ProfileView.{modes_of};
 ghost use Rattle.terminal_table.specs.Replies.{without_replies};
 
 use crate::actions::{apply, print};
-use crate::profile::{Modes, Profile, modes_of, resized_modes};
+use crate::profile::{Modes, Profile, modes_of, resize_modes};
 use crate::saved::SavedCursor;
 use cell_base::{SequenceNo, Widths};
 use cell_surface::{Surface, SurfaceError};
@@ -57,7 +57,7 @@ impl<W: Widths + Drop> TerminalState<W> {
             saved: None,
             replies: Vec::new(alloc),
             held: String::new(alloc),
-            modes: modes_of(profile),
+            modes: modes_of(alloc, profile),
         })
     }
 
@@ -103,8 +103,9 @@ impl<W: Widths + Drop> TerminalState<W> {
         Ok(())
     }
 
-    /// Becomes `width` columns wide and `height` rows high, each from 1 to 2^32 - 1. The held run ends first; a
-    /// saved cursor stays as it is, and all rows scroll. Refuses as the surface does.
+    /// Becomes `width` columns wide and `height` rows high, each from 1 to 2^32 - 1. The held run ends first; saved
+    /// cursors stay as they are, and all rows scroll. Refuses as the surface does; where the rows of the screen that is
+    /// not shown are refused memory the surface has failed, too.
     pub fn resize(&mut self, width: usize, height: usize) -> Result<(), SurfaceError>
         requires size { IsScreenSize width height }
         ensures done { OnOk result (Does (λ w. W.width_of w) self.old self.new (Resized width height ∷ [])) }
@@ -115,8 +116,14 @@ impl<W: Widths + Drop> TerminalState<W> {
     {
         self.settle()?;
         self.surface.resize(width, height)?;
-        self.modes = resized_modes(self.modes);
-        Ok(())
+        let alloc = *self.replies.allocator();
+        match resize_modes(alloc, &mut self.modes, width, height) {
+            Ok(()) => Ok(()),
+            Err(_) => {
+                self.surface.fail();
+                Err(SurfaceError::Memory)
+            }
+        }
     }
 
     // An action that is no print ends the run, and is applied.

@@ -13,8 +13,9 @@ use cell_surface::laws::surfaces_stay_lawful;
 use cell_surface::{Surface, SurfaceError};
 use std::alloc::Global;
 use xterm_steps::{
-    delete_characters, delete_lines, erase_characters, erase_line_end, erase_line_start,
-    insert_characters, insert_lines, line_feed, next_line, reverse_index, scroll_down, scroll_up,
+    delete_characters, delete_lines, erase_characters, erase_display_end, erase_display_start,
+    erase_line_end, erase_line_start, insert_characters, insert_lines, line_feed, next_line,
+    reverse_index, scroll_down, scroll_up,
 };
 
 /// A function that only xterm has, with its counts.
@@ -30,6 +31,10 @@ pub(crate) enum XtermFunction {
     EraseToEndOfLine,
     /// EL 1 (CSI 1 K): erases from the start of the cursor's row to the cursor.
     EraseToStartOfLine,
+    /// ED 0 (CSI J): erases from the cursor to the end of its row, and the rows below.
+    EraseToEndOfDisplay,
+    /// ED 1 (CSI 1 J): erases the rows above, and from the start of the cursor's row to the cursor.
+    EraseToStartOfDisplay,
     /// LF, VT, FF and IND (ESC D): goes to the next row, or scrolls the region up.
     LineFeed,
     /// NEL (ESC E): goes to the first column of the next row, or scrolls the region up.
@@ -66,6 +71,8 @@ fn perform<W: Widths + Drop>(
         XtermFunction::DeleteCharacters(count) => delete_characters(surface, count as usize),
         XtermFunction::EraseToEndOfLine => erase_line_end(surface),
         XtermFunction::EraseToStartOfLine => erase_line_start(surface),
+        XtermFunction::EraseToEndOfDisplay => erase_display_end(alloc, surface),
+        XtermFunction::EraseToStartOfDisplay => erase_display_start(alloc, surface),
         XtermFunction::LineFeed => line_feed(alloc, surface, top, bottom),
         XtermFunction::NextLine => next_line(alloc, surface, top, bottom),
         XtermFunction::ReverseIndex => reverse_index(alloc, surface, top, bottom),

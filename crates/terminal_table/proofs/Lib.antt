@@ -3,6 +3,7 @@ pub mod ListLemmas
 pub mod TurnLemmas
 pub mod RunLemmas
 pub mod SoundLemmas
+pub mod ScreenLemmas
 pub mod StateLemmas
 pub mod PrintLemmas
 pub mod EventLemmas
@@ -18,5 +19,6 @@ pub mod StreamLemmas
 pub mod PositionLemmas
 pub mod LedLemmas
 pub mod XtermLemmas
+pub mod SwitchLemmas
 pub mod RequestLemmas
 pub mod ModesLemmas

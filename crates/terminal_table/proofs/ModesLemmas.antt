@@ -22,7 +22,7 @@ pub plain_event : (width_of : List ℕ → ℕ) (v : View) (event : Event) → v
 plain_event width_of v (Act action) e =
     cond_both (is_print action) _ _ (λ (x : View). x.state.modes ≡ None) (λ p. e) (λ p. plain_modes action (settled width_of v).state (settled_modes width_of v ∙ e))
 plain_event width_of v Looked e = settled_modes width_of v ∙ e
-plain_event width_of v (Resized width height) e = ap (option_map resized_modes) (settled_modes width_of v ∙ e)
+plain_event width_of v (Resized width height) e = ap (option_map (resized_modes width height)) (settled_modes width_of v ∙ e)
 plain_event width_of v (Forgot number) e = e
 
 plain_events : (width_of : List ℕ → ℕ) (v : View) (es : List Event) → v.state.modes ≡ None → (fold (event_done width_of) v es).state.modes ≡ None

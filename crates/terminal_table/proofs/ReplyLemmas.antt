@@ -1,6 +1,6 @@
 -- Replies that are taken change nothing else; and steps that end no run.
 use Rattle.std.proofs.Common.{◌≡◌, ℕ, Bool, true, false, List, [], ◌∷◌, ◌++◌, length, map, fold, refl, sym, ap, ◌∙◌, append_assoc, append-nil}
-use Rattle.std.specs.Prelude.{◌==◌, Option, Some, None, if◌then◌else◌}
+use Rattle.std.specs.Prelude.{◌==◌, Option, Some, None, option_map, if◌then◌else◌}
 use Rattle.cell_base.specs.Screen.{Screen}
 use Rattle.screen_change.specs.ChangeValue.{ChangeValue}
 use Rattle.screen_log.specs.LogSteps.{LogStep, Logged}
@@ -11,8 +11,7 @@ use Rattle.terminal_table.specs.History.{History, Piece, Forget, pieces, Event, 
 use Rattle.terminal_table.specs.Logged.{run_logged, event_logged, events_logged, logged}
 use Rattle.terminal_table.specs.Meaning.{View, settled, event_done, after, with_size}
 use Rattle.terminal_table.specs.Replies.{with_taken, without_replies}
-use Rattle.terminal_table.specs.Request.{Request, Table, Xterm, Sets}
-use Rattle.terminal_table.specs.Modes.{Modes}
+use Rattle.terminal_table.specs.Request.{Request, Table, Xterm, Sets, Switches, Replies, modes_set}
 use Rattle.terminal_table.specs.Requests.{acted, acted_changes, request_changes, request_done, request_of}
 use Rattle.terminal_table.specs.State.{State}
 use Rattle.terminal_table.specs.Steps.{reply_step, run_step, status_reply, position_reply, step}
@@ -56,13 +55,17 @@ module _ (width_of : List ℕ → ℕ) (taken : List ℕ) where
   step_with None state = refl
   step_with (Some (Table function)) state = λ i. record (step function state) { replies = reply_after function taken state.replies state.screen i }
   step_with (Some (Xterm function)) state = refl
-  step_with (Some (Sets modes function)) state = λ i. record (step function state) { replies = reply_after function taken state.replies state.screen i; modes = Some modes }
+  step_with (Some (Sets setting function)) state = λ i. record (step function state) { replies = reply_after function taken state.replies state.screen i; modes = option_map (modes_set setting) state.modes }
+  step_with (Some (Switches function)) state = refl
+  step_with (Some (Replies text)) state = λ i. record state { replies = append_assoc taken state.replies text i }
 
   changes_with : (request : Option Request) (state : State) → request_changes request (with_prefix taken state) ≡ request_changes request state
   changes_with None state = refl
   changes_with (Some (Table function)) state = refl
   changes_with (Some (Xterm function)) state = refl
-  changes_with (Some (Sets modes function)) state = refl
+  changes_with (Some (Sets setting function)) state = refl
+  changes_with (Some (Switches function)) state = refl
+  changes_with (Some (Replies text)) state = refl
 
   done_with : (v : View) (event : Event) → event_done width_of (with_taken taken v) event ≡ with_taken taken (event_done width_of v event)
   done_with v (Act action) = by_test (is_print action) refl

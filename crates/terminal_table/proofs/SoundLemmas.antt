@@ -16,7 +16,7 @@ use Rattle.screen_effects.specs.Effect.{effect, replay}
 use Rattle.screen_effects.specs.WrittenCells.{HasUtf8, IsSoundDisplay}
 use Rattle.screen_effects.proofs.EffectLaws.{effect_is}
 use Rattle.screen_effects.proofs.SoundLemmas.{effect_is_sound}
-use Rattle.terminal_table.specs.State.{SavedCursor}
+use Rattle.terminal_table.specs.Modes.{SavedCursor}
 use Rattle.terminal_table.specs.Functions as table
 use Rattle.terminal_table.specs.Functions.{ControlFunction}
 use Rattle.terminal_table.specs.Changes.{changes, move_change, rendition_changes}

@@ -19,7 +19,8 @@ use Rattle.screen_effects.specs.Effect.{blank_row, cleared_after, scrolled_up, s
 use Rattle.screen_effects.specs.Positions.{resolved, resolved_column}
 use Rattle.screen_effects.specs.Regions.{moved_up, moved_down, in_region}
 use Rattle.screen_effects.specs.Strokes.{Stroke, CarriageReturn as return_stroke, LineFeed as feed_stroke, stroke_done, scrolls}
-use Rattle.terminal_table.specs.State.{SavedCursor, State, IsState}
+use Rattle.terminal_table.specs.Modes.{SavedCursor}
+use Rattle.terminal_table.specs.State.{State, IsState}
 use Rattle.terminal_table.specs.Functions as table
 use Rattle.terminal_table.specs.Functions.{ControlFunction}
 use Rattle.terminal_table.specs.Steps.{active_column, target, at_position, reverse_index, erased_after, end_of_line_erased, rows_below_erased, line_erased, display_erased, with_rendition, on_pen, with_cursor, cursor_to_restore, reset_screen, screen_step, step_of}

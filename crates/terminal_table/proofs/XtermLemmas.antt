@@ -1,5 +1,5 @@
 -- The functions that only xterm has leave lawful screens, and what is logged for them leads there.
-use Rattle.std.proofs.Common.{◌≡◌, ℕ, ◌+◌, ◌-◌, Bool, true, false, List, refl, sym, subst, ◌∙◌}
+use Rattle.std.proofs.Common.{◌≡◌, ℕ, ◌+◌, ◌-◌, Bool, true, false, List, refl, sym, subst, ◌∙◌, arith}
 use Rattle.std.specs.Prelude.{◌==◌, min, if◌then◌else◌}
 use Rattle.cell_base.specs.Row.{Column, Row, space}
 use Rattle.cell_base.specs.Attributes.{Attributes}
@@ -10,14 +10,16 @@ use Rattle.screen_effects.specs.Display.{Display, IsDisplay}
 use Rattle.screen_effects.specs.Effect.{replay}
 use Rattle.xterm_table.specs.Follows.{Follows}
 use Rattle.xterm_table.proofs.ColumnLemmas.{IsKept, IsSoundColumn, sound_kept}
-use Rattle.xterm_table.proofs.FollowLemmas.{FollowsWith, characters_deleted_follows, characters_erased_follows, characters_inserted_follows, down_follows, follows_with, line_end_erased_follows, line_fed_follows, line_start_erased_follows, lines_deleted_follows, lines_inserted_follows, next_line_follows, reverse_line_fed_follows, up_follows, with_follows}
+use Rattle.xterm_table.proofs.FollowLemmas.{FollowsWith, characters_deleted_follows, characters_erased_follows, characters_inserted_follows, display_end_erased_follows, display_start_erased_follows, down_follows, follows_with, line_end_erased_follows, line_fed_follows, line_start_erased_follows, lines_deleted_follows, lines_inserted_follows, next_line_follows, reverse_line_fed_follows, up_follows, with_follows}
+use Rattle.xterm_table.specs.Displays.{display_end_erased, display_start_erased}
 use Rattle.xterm_table.specs.RowEdits.{active_column, characters_deleted, characters_erased, characters_inserted, line_end_erased, line_start_erased}
 use Rattle.xterm_table.specs.RowMoves.{in_column, next_row, row_before, scrolled_down, scrolled_up}
 use Rattle.terminal_table.specs.Led.{led}
 use Rattle.terminal_table.specs.State.{State, IsState}
 use Rattle.terminal_table.specs.Turns.{Turns}
-use Rattle.terminal_table.specs.Xterm.{XtermFunction, EraseCharacters, InsertCharacters, DeleteCharacters, EraseToEndOfLine, EraseToStartOfLine, LineFeed, NextLine, ReverseIndex, ScrollUp, ScrollDown, InsertLines, DeleteLines, xterm_screen}
+use Rattle.terminal_table.specs.Xterm.{XtermFunction, EraseCharacters, InsertCharacters, DeleteCharacters, EraseToEndOfLine, EraseToStartOfLine, EraseToEndOfDisplay, EraseToStartOfDisplay, LineFeed, NextLine, ReverseIndex, ScrollUp, ScrollDown, InsertLines, DeleteLines, xterm_screen}
 use Rattle.terminal_table.proofs.LedLemmas.{led_leads}
+use Rattle.terminal_table.proofs.ScreenLemmas.{modes_still}
 
 -- ---- what each function keeps
 
@@ -28,6 +30,8 @@ function_follows P kept before (InsertCharacters n) s f = characters_inserted_fo
 function_follows P kept before (DeleteCharacters n) s f = characters_deleted_follows P kept before s n f
 function_follows P kept before EraseToEndOfLine s f = line_end_erased_follows P kept before s f
 function_follows P kept before EraseToStartOfLine s f = line_start_erased_follows P kept before s f
+function_follows P kept before EraseToEndOfDisplay s f = display_end_erased_follows P kept before s f
+function_follows P kept before EraseToStartOfDisplay s f = display_start_erased_follows P kept before s f
 function_follows P kept before (LineFeed r) s f = line_fed_follows P kept before s r.top r.bottom f
 function_follows P kept before (NextLine r) s f = next_line_follows P kept before s r.top r.bottom f
 function_follows P kept before (ReverseIndex r) s f = reverse_line_fed_follows P kept before s r.top r.bottom f
@@ -59,6 +63,8 @@ module _ {A : Type 0} (part : Screen → A) (stays : (s : Screen) (rows : List R
   part_stays (DeleteCharacters n) s = stays s (characters_deleted n s).rows (active_column s) s.row
   part_stays EraseToEndOfLine s = stays s (line_end_erased s).rows (active_column s) s.row
   part_stays EraseToStartOfLine s = stays s (line_start_erased s).rows (active_column s) s.row
+  part_stays EraseToEndOfDisplay s = stays s (display_end_erased s).rows (active_column s) s.row
+  part_stays EraseToStartOfDisplay s = stays s (display_start_erased s).rows (active_column s) s.row
   part_stays (LineFeed r) s = below_stays r.top r.bottom (in_column (active_column s) s) ∙ stays s s.rows (active_column s) s.row
   part_stays (NextLine r) s = below_stays r.top r.bottom (in_column 0 s) ∙ stays s s.rows 0 s.row
   part_stays (ReverseIndex r) s = above_stays r.top r.bottom (in_column (active_column s) s) ∙ stays s s.rows (active_column s) s.row
@@ -85,7 +91,15 @@ xterm_follows width_of function state h =
 pub xterm_is : (width_of : List ℕ → ℕ) (function : XtermFunction) (state : State) → IsState width_of state → IsState width_of (record state { screen = xterm_screen function state.screen })
 xterm_is width_of function state h =
     let f = xterm_follows width_of function state h in
-    record { lawful = f.lawful; whole = f.whole; narrow = h.narrow; sound = f.sound }
+    let inside = h.lawful.row_in in
+    let tall = f.tall in
+    record {
+      lawful = f.lawful;
+      whole = f.whole;
+      narrow = h.narrow;
+      sound = f.sound;
+      other = modes_still width_of state.screen (xterm_screen function state.screen) state.modes f.wide tall (omega (arith, inside, tall)) h.other;
+    }
 
 -- ---- what is logged
 

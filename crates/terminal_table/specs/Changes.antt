@@ -14,7 +14,8 @@ use Rattle.screen_change.specs.ChangeValue.{ScrollRegionDown}
 use Rattle.screen_change.specs.ChangeValue as change
 use Rattle.csi_codec.specs.declared.rendition.Sgr.{Sgr}
 use Rattle.csi_codec.specs.declared.rendition.Sgr.TheVariants as sgr
-use Rattle.terminal_table.specs.State.{SavedCursor, State}
+use Rattle.terminal_table.specs.Modes.{SavedCursor}
+use Rattle.terminal_table.specs.State.{State}
 use Rattle.terminal_table.specs.Functions.{Move, Up, ControlFunction, Moves, LineFeed, CarriageReturn, NextRow}
 use Rattle.terminal_table.specs.Functions.{ReverseIndex, EraseToEndOfDisplay, EraseDisplay, EraseToEndOfLine, EraseLine}
 use Rattle.terminal_table.specs.Functions.{ScrollUp, ScrollDown, Rendition, Hyperlink, Title, ShowCursor, SaveCursor}

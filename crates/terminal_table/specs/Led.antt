@@ -10,7 +10,7 @@ use Rattle.screen_difference.specs.FreshCells.{screen_fresh}
 use Rattle.screen_effects.specs.Effect.{cursor_row}
 use Rattle.terminal_table.specs.Changes.{changes, visibility}
 use Rattle.terminal_table.specs.Functions.{ControlFunction}
-use Rattle.terminal_table.specs.State.{SavedCursor}
+use Rattle.terminal_table.specs.Modes.{SavedCursor}
 use Rattle.terminal_table.specs.Steps.{screen_step}
 
 -- ---- the cursor's place

@@ -14,6 +14,7 @@ pub mod Prints
 pub mod Bounds
 pub mod Led
 pub mod Xterm
+pub mod Screens
 pub mod Request
 pub mod XtermRequests
 pub mod Requests

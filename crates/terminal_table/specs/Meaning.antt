@@ -34,10 +34,13 @@ action_done width_of view action =
     if is_print action then record view { held = view.held ++ printed action }
     else record (settled width_of view) { state = acted action (settled width_of view).state }
 
--- a screen of another size; the saved cursor stays
+-- screens of another size; saved cursors stay
 abbrev pub with_size : ℕ → ℕ → State → State
 with_size width height state =
-    record state { screen = resized_screen width height state.screen; modes = option_map resized_modes state.modes }
+    record state {
+      screen = resized_screen width height state.screen;
+      modes = option_map (resized_modes width height) state.modes;
+    }
 
 -- a look and another size end the run
 abbrev pub event_done : (List ℕ → ℕ) → View → Event → View

@@ -9,7 +9,7 @@ use Rattle.screen_difference.specs.Prints.{PlacedText, strokes_print, strokes_sc
 use Rattle.terminal_table.specs.Functions.{ControlFunction, LineFeed, NextRow, ReverseIndex, ScrollUp, ScrollDown}
 use Rattle.terminal_table.specs.History.{Event, Act, Looked, Resized, Forgot, History, Piece, Look, events}
 use Rattle.terminal_table.specs.Meaning.{View, settled, event_done}
-use Rattle.terminal_table.specs.Request.{Request, Table, Xterm, Sets}
+use Rattle.terminal_table.specs.Request.{Request, Table, Xterm, Sets, Switches, Replies}
 use Rattle.terminal_table.specs.Requests.{request_of}
 use Rattle.terminal_table.specs.State.{State}
 
@@ -68,7 +68,9 @@ abbrev pub request_scrolls : Option Request → Screen → Bool
 request_scrolls None screen = false
 request_scrolls (Some (Table function)) screen = function_scrolls function screen
 request_scrolls (Some (Xterm function)) screen = false
-request_scrolls (Some (Sets modes function)) screen = function_scrolls function screen
+request_scrolls (Some (Sets setting function)) screen = function_scrolls function screen
+request_scrolls (Some (Switches function)) screen = false
+request_scrolls (Some (Replies text)) screen = false
 
 abbrev pub event_scrolls : Event → State → Bool
 event_scrolls (Act action) state = request_scrolls (request_of state.modes state.screen action) state.screen

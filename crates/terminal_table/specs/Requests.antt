@@ -1,5 +1,5 @@
 -- What an action asks for: here the meaning of actions forks by the profile.
-use Rattle.std.specs.Prelude.{◌≡◌, List, [], Option, Some, None, option_map}
+use Rattle.std.specs.Prelude.{◌≡◌, List, [], ◌++◌, Option, Some, None, option_map}
 use Rattle.cell_base.specs.Screen.{Screen}
 use Rattle.screen_change.specs.ChangeValue.{ChangeValue}
 use Rattle.escape_stream.specs.StreamAction.{StreamAction}
@@ -7,7 +7,8 @@ use Rattle.terminal_table.specs.Changes.{changes}
 use Rattle.terminal_table.specs.Functions.{ControlFunction, function_of}
 use Rattle.terminal_table.specs.Led.{led}
 use Rattle.terminal_table.specs.Modes.{Modes}
-use Rattle.terminal_table.specs.Request.{Request, Table, Xterm, Sets}
+use Rattle.terminal_table.specs.Request.{Request, Table, Xterm, Sets, Switches, Replies, modes_set}
+use Rattle.terminal_table.specs.Screens.{screens_after, screens_changes, screens_of, with_screens}
 use Rattle.terminal_table.specs.State.{State}
 use Rattle.terminal_table.specs.Steps.{step}
 use Rattle.terminal_table.specs.Xterm.{xterm_screen}
@@ -36,14 +37,19 @@ abbrev pub request_done : Option Request → State → State
 request_done None state = state
 request_done (Some (Table function)) state = step function state
 request_done (Some (Xterm function)) state = record state { screen = xterm_screen function state.screen }
-request_done (Some (Sets modes function)) state = record (step function state) { modes = Some modes }
+request_done (Some (Sets setting function)) state =
+    record (step function state) { modes = option_map (modes_set setting) state.modes }
+request_done (Some (Switches function)) state = with_screens (screens_after function (screens_of state)) state
+request_done (Some (Replies text)) state = record state { replies = state.replies ++ text }
 
 -- the changes that are logged for it; xterm's own functions are logged as what leads from screen to screen
 abbrev pub request_changes : Option Request → State → List ChangeValue
 request_changes None state = []
 request_changes (Some (Table function)) state = changes function state.saved state.screen
 request_changes (Some (Xterm function)) state = led state.screen (xterm_screen function state.screen)
-request_changes (Some (Sets modes function)) state = changes function state.saved state.screen
+request_changes (Some (Sets setting function)) state = changes function state.saved state.screen
+request_changes (Some (Switches function)) state = screens_changes function (screens_of state)
+request_changes (Some (Replies text)) state = []
 
 -- the state after an action that is no print, and the changes that are logged for it
 abbrev pub acted : StreamAction → State → State

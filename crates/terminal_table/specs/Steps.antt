@@ -11,7 +11,8 @@ use Rattle.csi_codec.specs.declared.rendition.Sgr.{Sgr}
 use Rattle.csi_codec.specs.declared.rendition.Sgr.TheVariants as sgr
 use Rattle.screen_effects.specs.Effect.{blank_row}
 use Rattle.screen_effects.specs.Regions.{moved_up, moved_down}
-use Rattle.terminal_table.specs.State.{SavedCursor, State, cursor_of, home_cursor}
+use Rattle.terminal_table.specs.Modes.{SavedCursor}
+use Rattle.terminal_table.specs.State.{State, cursor_of, home_cursor}
 use Rattle.terminal_table.specs.Functions.{Move, Up, Down, Left, Right, NextTab, NextLine, PrecedingLine, ToColumn}
 use Rattle.terminal_table.specs.Functions.{ToLine, ToPosition, ControlFunction, Moves, LineFeed, CarriageReturn}
 use Rattle.terminal_table.specs.Functions.{NextRow}
@@ -132,9 +133,13 @@ reset_screen screen = record (new_screen screen.width (height screen)) { title =
 abbrev pub status_reply : List ℕ
 status_reply = 27 ∷ 91 ∷ 48 ∷ 110 ∷ []
 
--- to DSR 6: CPR, ECMA-48 8.3.14: ESC [ line ; column R, the cursor's line and column, counted from 1
+-- CPR, ECMA-48 8.3.14: ESC [ line ; column R, the line and the column of a row and a column, which count from 0
+abbrev pub position_text : ℕ → ℕ → List ℕ
+position_text row column = 27 ∷ 91 ∷ decimal (row + 1) ++ 59 ∷ decimal (column + 1) ++ 82 ∷ []
+
+-- to DSR 6: the cursor's
 abbrev pub position_reply : Screen → List ℕ
-position_reply screen = 27 ∷ 91 ∷ decimal (screen.row + 1) ++ 59 ∷ decimal (active_column screen + 1) ++ 82 ∷ []
+position_reply screen = position_text screen.row (active_column screen)
 
 -- ---- the table
 

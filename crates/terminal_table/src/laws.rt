@@ -14,7 +14,7 @@ ghost use Rattle.terminal_table.specs.History.{History, Piece, Forget, Event, Ac
 ghost use Rattle.terminal_table.specs.Logged.{run_logged, event_logged, logged};
 ghost use Rattle.terminal_table.specs.Meaning.{View, settled, event_done, after, with_size};
 ghost use Rattle.terminal_table.specs.Replies.{with_taken, without_replies};
-ghost use Rattle.terminal_table.specs.Modes.{Modes};
+ghost use Rattle.terminal_table.specs.Modes.{AreNew, Modes};
 ghost use Rattle.terminal_table.specs.Requests.{AsksForNothing, acted, acted_changes};
 ghost use Rattle.terminal_table.specs.State.{State, IsState, new_state, new_state_with};
 ghost use Rattle.terminal_table.specs.Steps.{step, step_of, run_step};
@@ -67,8 +67,8 @@ pub fn plain_terminals_have_the_table()
 pub fn states_stay_lawful()
     ensures new { (width_of : List ℕ → ℕ) (width : ℕ) (height : ℕ) → width_of space ≡ 1 → 0 < width → 0 < height
         → IsState width_of (new_state width height) }
-    ensures modes { (width_of : List ℕ → ℕ) (modes : Option Modes) (width : ℕ) (height : ℕ) → width_of space ≡ 1
-        → 0 < width → 0 < height → IsState width_of (new_state_with modes width height) }
+    ensures modes { (width_of : List ℕ → ℕ) (modes : Option Modes) (width : ℕ) (height : ℕ) → AreNew modes
+        → width_of space ≡ 1 → 0 < width → 0 < height → IsState width_of (new_state_with modes width height) }
     ensures steps { (width_of : List ℕ → ℕ) (function : ControlFunction) (state : State) → IsState width_of state
         → IsState width_of (step function state) }
     ensures runs { (width_of : List ℕ → ℕ) (text : List ℕ) (state : State) → IsRunText text → IsState width_of state

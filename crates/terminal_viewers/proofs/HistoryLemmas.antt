@@ -136,7 +136,7 @@ module _ (width_of : List ℕ → ℕ) where
   sizes_done (Look ∷ history) stream state read e = sizes_done history stream state read e
   sizes_done (Resize width tall ∷ history) stream state read e =
       let next : State = record state { screen = resized_screen width tall state.screen } in
-      let same : option_map resized_modes state.modes ≡ state.modes = ap (option_map resized_modes) e ∙ sym e in
+      let same : option_map (resized_modes width tall) state.modes ≡ state.modes = ap (option_map (resized_modes width tall)) e ∙ sym e in
       (λ i. fold (event_done width_of) (waiting (record next { modes = same i }) read) (events stream (sizes history))) ∙ sizes_done history stream next read e
   sizes_done (Forget number ∷ history) stream state read e = sizes_done history stream state read e
 

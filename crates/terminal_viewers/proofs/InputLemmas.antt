@@ -130,7 +130,7 @@ module _ (cut : AllCut) (shown : UpdatesAreShown) (idles : UpdatesLeaveIdle) (wi
 
   new_stands : (width height : ℕ) → 0 < width → 0 < height → Stands width_of (new_standing width height)
   new_stands width height w t = record {
-    lawful = record { lawful = new_is width_of None width height narrow w t; plain = no_text };
+    lawful = record { lawful = new_is width_of None width height tt narrow w t; plain = no_text };
     spelled = new_spelled width height;
     encodings = tt;
     counted = omega arith;
@@ -142,7 +142,7 @@ module _ (cut : AllCut) (shown : UpdatesAreShown) (idles : UpdatesLeaveIdle) (wi
 
   new_reads : (width height : ℕ) → IsScreenSize width height → Reads (new_view width height)
   new_reads width height size =
-      let new = new_is width_of None width height narrow size.columns.0 size.rows.0 in
+      let new = new_is width_of None width height tt narrow size.columns.0 size.rows.0 in
       record {
         ready = record { lawful = new.lawful; whole = new.whole; width = size.columns.1; height = subst (λ n. n < 2 ^ 32) (sym (length-replicate height (plain_row width))) size.rows.1; run = refl; plain = refl };
         idle = record { run = refl; stream = idle_stream };

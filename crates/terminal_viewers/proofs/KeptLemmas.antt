@@ -17,7 +17,7 @@ use Rattle.terminal_table.specs.History.{History, Piece, Look, Resize, Forget, p
 use Rattle.terminal_table.specs.Logged.{run_logged, event_logged, events_logged, logged, log_after}
 use Rattle.terminal_table.specs.Meaning.{View, settled, event_done, after}
 use Rattle.terminal_table.specs.Modes.{resized_modes}
-use Rattle.terminal_table.specs.Request.{Request, Table, Xterm, Sets}
+use Rattle.terminal_table.specs.Request.{Request, Table, Xterm, Sets, Switches, Replies}
 use Rattle.terminal_table.specs.Requests.{acted, acted_changes, request_changes, request_done, request_of}
 use Rattle.terminal_table.specs.State.{State}
 use Rattle.terminal_table.specs.Steps.{run_step}
@@ -51,7 +51,9 @@ module _ (width_of : List ℕ → ℕ) where
   step_with None replies v = record { screen = refl; saved = refl; modes = refl; stream = refl; held = refl }
   step_with (Some (Table function)) replies v = record { screen = refl; saved = refl; modes = refl; stream = refl; held = refl }
   step_with (Some (Xterm function)) replies v = record { screen = refl; saved = refl; modes = refl; stream = refl; held = refl }
-  step_with (Some (Sets modes function)) replies v = record { screen = refl; saved = refl; modes = refl; stream = refl; held = refl }
+  step_with (Some (Sets setting function)) replies v = record { screen = refl; saved = refl; modes = refl; stream = refl; held = refl }
+  step_with (Some (Switches function)) replies v = record { screen = refl; saved = refl; modes = refl; stream = refl; held = refl }
+  step_with (Some (Replies text)) replies v = record { screen = refl; saved = refl; modes = refl; stream = refl; held = refl }
 
   done_with : (replies : List ℕ) (v : View) (event : Event) → AreAlike (event_done width_of (with_replies replies v) event) (event_done width_of v event)
   done_with replies v (Act action) = by_test (is_print action) refl
@@ -64,7 +66,7 @@ module _ (width_of : List ℕ → ℕ) where
   done_with replies v (Resized width tall) = let s = settled_with replies v in record {
     screen = ap (λ (x : View). resized_screen width tall x.state.screen) s;
     saved = ap (λ (x : View). x.state.saved) s;
-    modes = ap (λ (x : View). option_map resized_modes x.state.modes) s;
+    modes = ap (λ (x : View). option_map (resized_modes width tall) x.state.modes) s;
     stream = refl;
     held = refl;
   }
@@ -74,7 +76,9 @@ module _ (width_of : List ℕ → ℕ) where
   changes_with None replies state = refl
   changes_with (Some (Table function)) replies state = refl
   changes_with (Some (Xterm function)) replies state = refl
-  changes_with (Some (Sets modes function)) replies state = refl
+  changes_with (Some (Sets setting function)) replies state = refl
+  changes_with (Some (Switches function)) replies state = refl
+  changes_with (Some (Replies text)) replies state = refl
 
   logged_with : (replies : List ℕ) (v : View) (event : Event) → event_logged width_of (with_replies replies v) event ≡ event_logged width_of v event
   logged_with replies v (Act action) =

@@ -29,7 +29,7 @@ module _ (width_of : List ℕ → ℕ) where
 
   new_can_answer : (width tall : ℕ) → width_of space ≡ 1 → 0 < width → width < 2 ^ 32 → 0 < tall → tall < 2 ^ 32 → CanAnswer width_of (new_standing width tall)
   new_can_answer width tall narrow w wide t small = record {
-    lawful = record { lawful = new_is width_of None width tall narrow w t; plain = no_text };
+    lawful = record { lawful = new_is width_of None width tall tt narrow w t; plain = no_text };
     wide = wide;
     tall = subst (λ n. n < 2 ^ 32) (sym (new_height width tall)) small;
     spelled = new_spelled width tall;

@@ -19,7 +19,8 @@ use Rattle.screen_effects.specs.Display.{Display, IsDisplay}
 use Rattle.screen_effects.specs.Effect.{effect, replay}
 use Rattle.screen_effects.specs.Resize.{resized_screen}
 use Rattle.screen_effects.proofs.EffectLaws.{replay_is, resized_is}
-use Rattle.terminal_render.proofs.ViewLemmas.{display_on_is, replay_size}
+use Rattle.terminal_table.proofs.StateLemmas.{replay_size}
+use Rattle.terminal_render.proofs.ViewLemmas.{display_on_is}
 use Rattle.terminal_table.specs.Requests.{acted_changes}
 use Rattle.terminal_table.specs.History.{History, Piece, Look, Resize, Forget, Event, Act, Looked, Resized, Forgot, events}
 use Rattle.terminal_table.specs.Logged.{run_logged, event_logged, events_logged, log_after}

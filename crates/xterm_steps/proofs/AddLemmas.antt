@@ -4,6 +4,7 @@ use Rattle.std.specs.Prelude.{◌==◌, if◌then◌else◌}
 use Rattle.std.proofs.lemmas.Bool.Decides.{nat_tests}
 use Rattle.std.proofs.lemmas.List.{get_or-set_same}
 use Rattle.cell_base.specs.declared.attributes.Position.TheVariants.{Absolute}
+use Rattle.cell_base.specs.Attributes.{Attributes}
 use Rattle.cell_base.specs.Row.{Row}
 use Rattle.cell_base.specs.Screen.{Screen, height}
 use Rattle.screen_change.specs.ChangeValue.{ChangeValue, AllAttributes, CursorPosition}
@@ -57,6 +58,16 @@ with_row_led width_of s row h f =
 -- with the cursor at a column and a row
 pub place_follows : (width_of : List ℕ → ℕ) (before s : Screen) (column row : ℕ) → column ≤ s.width → row < height s → Follows width_of before s → Follows width_of before (record s { column = column; row = row })
 place_follows width_of before s column row h k f = record {
+  wide = f.wide;
+  tall = f.tall;
+  lawful = record { wide_enough = f.lawful.wide_enough; even = f.lawful.even; column_in = h; row_in = k };
+  whole = f.whole;
+  sound = f.sound;
+}
+
+-- and with another pen
+pub pen_follows : (width_of : List ℕ → ℕ) (before s : Screen) (column row : ℕ) (pen : Attributes) → column ≤ s.width → row < height s → Follows width_of before s → Follows width_of before (record s { column = column; row = row; pen = pen })
+pen_follows width_of before s column row pen h k f = record {
   wide = f.wide;
   tall = f.tall;
   lawful = record { wide_enough = f.lawful.wide_enough; even = f.lawful.even; column_in = h; row_in = k };

@@ -4,3 +4,4 @@ pub mod ShowLemmas
 pub mod MoveLemmas
 pub mod CopyLemmas
 pub mod LedLemmas
+pub mod DisplayLemmas

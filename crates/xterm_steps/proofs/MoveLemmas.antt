@@ -5,6 +5,7 @@ use Rattle.std.specs.List.{drop-map, take-map}
 use Rattle.std.proofs.lemmas.Bool.Decides.{nat_tests}
 use Rattle.std.proofs.lemmas.List.{drop-drop, drop-take, drop_all, length-drop, length-map, length-take, map-append, take_all}
 use Rattle.cell_base.specs.declared.attributes.Position.TheVariants.{Absolute}
+use Rattle.cell_base.specs.Attributes.{Attributes}
 use Rattle.cell_base.specs.Row.{Row}
 use Rattle.cell_base.specs.Screen.{Screen, height}
 use Rattle.cell_edits.specs.VisibleCells.{VisibleCell}
@@ -29,18 +30,32 @@ again_is s (Some v) = refl
 place_is : (s : Screen) → position_and_pen s ≡ place_and_pen s.width s.column s.row s.pen (cursor_row s)
 place_is s = λ i. if s.column == s.width then again_is s (last_cell (cursor_row s)) i else CursorPosition (Absolute s.column) (Absolute s.row) ∷ AllAttributes s.pen ∷ []
 
--- the difference of all rows, the cursor's place, and the pen
-pub rows_led : (s : Screen) (rows : List Row) (column : ℕ) → length rows ≡ height s → All (λ row. length row ≡ s.width) rows
-    → led s (record s { rows = rows; column = column }) ≡ difference (lines_fresh s.rows 0 rows) ++ place_and_pen s.width column s.row s.pen (get_or rows s.row [])
-rows_led s rows column tall even =
-    let new : Screen = record s { rows = rows; column = column } in
+-- the difference of all rows, the cursor's place, and a pen
+pub screen_led : (s : Screen) (rows : List Row) (column row : ℕ) (pen : Attributes) → length rows ≡ height s → All (λ row. length row ≡ s.width) rows
+    → led s (record s { rows = rows; column = column; row = row; pen = pen }) ≡ difference (lines_fresh s.rows 0 rows) ++ place_and_pen s.width column row pen (get_or rows row [])
+screen_led s rows column row pen tall even =
+    let new : Screen = record s { rows = rows; column = column; row = row; pen = pen } in
     let all : drop (length rows) s.rows ≡ [] = drop_all (length rows) s.rows (omega (arith, tall)) in
     let is : rows ≡ take 0 s.rows ++ (rows ++ drop (length rows) (drop 0 s.rows)) = sym (ap (λ (rest : List Row). rows ++ rest) all ∙ append-nil rows) in
-    let moves : List ChangeValue = place_and_pen s.width column s.row s.pen (get_or rows s.row []) in
+    let moves : List ChangeValue = place_and_pen s.width column row pen (get_or rows row []) in
     (λ i. difference (block_led s new 0 rows (omega (arith, tall)) even is i) ++ place_is new i ++ same_sight s.visible i)
     ∙ append-nil (difference (lines_fresh s.rows 0 rows) ++ moves)
 
+-- the cursor's row and the pen stay
+pub rows_led : (s : Screen) (rows : List Row) (column : ℕ) → length rows ≡ height s → All (λ row. length row ≡ s.width) rows
+    → led s (record s { rows = rows; column = column }) ≡ difference (lines_fresh s.rows 0 rows) ++ place_and_pen s.width column s.row s.pen (get_or rows s.row [])
+rows_led s rows column tall even = screen_led s rows column s.row s.pen tall even
+
 -- the rows stay
+pub cursor_led : (s : Screen) (column row : ℕ) (pen : Attributes) → led s (record s { column = column; row = row; pen = pen }) ≡ place_and_pen s.width column row pen (get_or s.rows row [])
+cursor_led s column row pen =
+    let new : Screen = record s { column = column; row = row; pen = pen } in
+    let none : screen_fresh s new ≡ [] = (λ i. rows_fresh (row_fresh 0 0 s.width) 0 (take_all (height s) s.rows (omega arith) i) s.rows) ∙ same_rows s.width 0 s.rows in
+    let moves : List ChangeValue = place_and_pen s.width column row pen (get_or s.rows row []) in
+    (λ i. difference (none i) ++ place_is new i ++ same_sight s.visible i)
+    ∙ append-nil moves
+
+-- no wrap is pending
 pub place_led : (s : Screen) (column row : ℕ) → column < s.width → led s (record s { column = column; row = row }) ≡ CursorPosition (Absolute column) (Absolute row) ∷ AllAttributes s.pen ∷ []
 place_led s column row h =
     let new : Screen = record s { column = column; row = row } in

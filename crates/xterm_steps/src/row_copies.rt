@@ -41,7 +41,7 @@ fn cursor_line<W: Widths + Drop>(surface: &Surface<W>) -> &Line
 }
 
 /// A line of blanks of the pen's background, as wide as the screen.
-pub(crate) fn blank_line<W: Widths + Drop>(surface: &Surface<W>) -> Result<Line, AllocError>
+pub fn blank_line<W: Widths + Drop>(surface: &Surface<W>) -> Result<Line, AllocError>
     requires { surface.now.is_failed ≡ false }
     ensures { IfOk result
         (λ line. line.columns ≡ blanks (shown_by surface.now).screen.width (shown_by surface.now).screen) }

@@ -5,7 +5,7 @@ ghost use Rattle.screen_change.specs.ValueOf.{value_of};
 ghost use Rattle.terminal_table.specs.Led.{led};
 ghost use Rattle.xterm_table.specs.Follows.{Follows};
 ghost use Rattle.xterm_table.specs.RowEdits.{characters_deleted, characters_erased, characters_inserted};
-ghost use Rattle.xterm_table.specs.RowEdits.{columns_erased, columns_within, line_end_erased, line_erased};
+ghost use Rattle.xterm_table.specs.RowEdits.{columns_erased, columns_within, line_end_erased};
 ghost use Rattle.xterm_table.specs.RowEdits.{line_start_erased, with_row};
 ghost use Rattle.xterm_steps.specs.Becomes.{Becomes};
 
@@ -109,17 +109,6 @@ pub fn erase_line_start<W: Widths + Drop>(surface: &mut Surface<W>) -> Result<()
     let (_width, _) = surface.dimensions();
     let finish = active_column(surface) + 1;
     erase_columns(surface, 0, finish)
-}
-
-/// EL 2 (CSI 2 K): all columns of the cursor's row become blanks.
-pub fn erase_line<W: Widths + Drop>(surface: &mut Surface<W>) -> Result<(), SurfaceError>
-    ensures { Becomes (λ w. W.width_of w) surface.old (line_erased (shown_by surface.old).screen) result surface.new }
-{
-    if surface.is_failed() {
-        return Err(SurfaceError::Failed);
-    }
-    let (width, _) = surface.dimensions();
-    erase_columns(surface, 0, width)
 }
 
 // How many of some columns there are from the cursor on.

@@ -17,8 +17,9 @@ ghost use Rattle.xterm_steps.specs.Becomes.{Becomes};
 ghost use Rattle.xterm_steps.specs.Place.{place_and_pen};
 
 use crate::additions::show;
-use crate::place::{place_cursor, push_place};
+use crate::place::place_cursor;
 use crate::row_copies::{active_column, blank_line};
+use crate::screens::screen_changes;
 use cell_base::Widths;
 use cell_line::Line;
 use cell_surface::laws::surfaces_stay_lawful;
@@ -27,8 +28,8 @@ use screen_change::Change;
 use std::alloc::{AllocError, Global};
 use xterm_table::laws::row_moves_follow;
 
-// Appends lines.
-fn push_lines<'a>(news: &mut Vec<&'a Line>, lines: &'a [Line]) -> Result<(), AllocError>
+/// Appends lines.
+pub(crate) fn push_lines<'a>(news: &mut Vec<&'a Line>, lines: &'a [Line]) -> Result<(), AllocError>
     ensures { OnOk result
         (map (λ line. line.now) news.new.items ≡ map (λ line. line.now) news.old.items ++ lines.now) }
 {
@@ -51,8 +52,8 @@ fn push_copies<'a>(news: &mut Vec<&'a Line>, line: &'a Line, count: usize) -> Re
     Ok(())
 }
 
-// Lines of which some have moved up.
-fn lines_up<'a>(
+/// Lines of which some have moved up.
+pub(crate) fn lines_up<'a>(
     alloc: Global,
     lines: &'a [Line],
     blank: &'a Line,
@@ -95,8 +96,8 @@ fn lines_down<'a>(
     Ok(news)
 }
 
-// The changes that make all rows show lines, and put the cursor into a column of its row.
-fn lines_changes<W: Widths + Drop>(
+/// The changes that make all rows show lines, and put the cursor into a column of its row.
+pub(crate) fn lines_changes<W: Widths + Drop>(
     alloc: Global,
     surface: &Surface<W>,
     news: Vec<&Line>,
@@ -113,11 +114,8 @@ fn lines_changes<W: Widths + Drop>(
         (slice_index_or (rows_of (map (λ line. line.now) news.entry.items)) (shown_by surface.now).screen.row [])) }
     ensures refused { OnErr result (IsErrOf result SurfaceError.Memory) }
 {
-    let (width, _) = surface.dimensions();
     let (_, row) = surface.cursor_position();
-    let line = news[row];
-    let mut changes = surface.diff_lines(news)?;
-    push_place(alloc, &mut changes, width, column, row, surface.pen(), line)?;
+    let changes = screen_changes(alloc, surface, news, column, row, surface.pen())?;
     Ok(changes)
 }
 

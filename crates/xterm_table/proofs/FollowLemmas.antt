@@ -13,8 +13,8 @@ use Rattle.screen_effects.specs.Regions.{moved_up, moved_down}
 use Rattle.screen_effects.proofs.EffectLaws.{down_length, region_length, up_length}
 use Rattle.screen_effects.proofs.SoundLemmas.{sound_space}
 use Rattle.xterm_table.specs.Follows.{Follows}
-use Rattle.xterm_table.specs.Displays.{display_end_erased, display_erased, display_start_erased}
-use Rattle.xterm_table.specs.RowEdits.{active_column, blanks, characters_deleted, characters_erased, characters_inserted, columns_erased, columns_within, line_end_erased, line_erased, line_start_erased, with_row}
+use Rattle.xterm_table.specs.Displays.{display_end_erased, display_start_erased}
+use Rattle.xterm_table.specs.RowEdits.{active_column, blanks, characters_deleted, characters_erased, characters_inserted, columns_erased, columns_within, line_end_erased, line_start_erased, with_row}
 use Rattle.xterm_table.specs.RowMoves.{in_column, line_fed, lines_deleted, lines_inserted, next_line, next_row, reverse_line_fed, row_before, rows_down, rows_up, scrolled_down, scrolled_up}
 use Rattle.xterm_table.proofs.BlockLemmas.{down_all, up_all}
 use Rattle.xterm_table.proofs.ColumnLemmas.{IsKept, IsSoundColumn, each-same, each_sound, sound_each}
@@ -64,9 +64,6 @@ module _ (P : Column → Type 0) (kept : IsKept P) (before : Screen) where
 
   pub line_start_erased_follows : (s : Screen) → FollowsWith P before s → FollowsWith P before (line_start_erased s)
   line_start_erased_follows s f = let some = f.some in erased_follows s 0 (active_column s + 1) (omega arith) (omega (arith, some)) f
-
-  pub line_erased_follows : (s : Screen) → FollowsWith P before s → FollowsWith P before (line_erased s)
-  line_erased_follows s f = erased_follows s 0 s.width (omega arith) (omega arith) f
 
   pub characters_inserted_follows : (s : Screen) (count : ℕ) → FollowsWith P before s → FollowsWith P before (characters_inserted count s)
   characters_inserted_follows s count f =
@@ -159,9 +156,6 @@ module _ (P : Column → Type 0) (kept : IsKept P) (before : Screen) where
 
   pub display_start_erased_follows : (s : Screen) → FollowsWith P before s → FollowsWith P before (display_start_erased s)
   display_start_erased_follows s f = up_follows (line_start_erased s) 0 s.row s.row (line_start_erased_follows s f)
-
-  pub display_erased_follows : (s : Screen) → FollowsWith P before s → FollowsWith P before (display_erased s)
-  display_erased_follows s f = let some = f.some in up_follows (in_column (active_column s) s) 0 (height s) (height s) (column_follows s (active_column s) (omega (arith, some)) f)
 
 -- ---- sound texts
 

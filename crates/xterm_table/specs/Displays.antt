@@ -2,8 +2,8 @@
 -- background, and a pending wrap ends.
 use Rattle.std.specs.Prelude.{ℕ, ◌+◌, ◌-◌}
 use Rattle.cell_base.specs.Screen.{Screen, height}
-use Rattle.xterm_table.specs.RowEdits.{active_column, line_end_erased, line_start_erased}
-use Rattle.xterm_table.specs.RowMoves.{in_column, rows_up}
+use Rattle.xterm_table.specs.RowEdits.{line_end_erased, line_start_erased}
+use Rattle.xterm_table.specs.RowMoves.{rows_up}
 
 -- `size` rows from row `first` on: they all scroll away
 abbrev pub rows_erased : ℕ → ℕ → Screen → Screen
@@ -17,7 +17,3 @@ display_end_erased screen =
 -- ED 1: as EL 1, and the rows above
 abbrev pub display_start_erased : Screen → Screen
 display_start_erased screen = rows_erased 0 screen.row (line_start_erased screen)
-
--- ED 2: all rows
-abbrev pub display_erased : Screen → Screen
-display_erased screen = rows_erased 0 (height screen) (in_column (active_column screen) screen)

@@ -40,10 +40,6 @@ line_end_erased screen = columns_erased (active_column screen) screen.width scre
 abbrev pub line_start_erased : Screen → Screen
 line_start_erased screen = columns_erased 0 (active_column screen + 1) screen
 
--- EL 2: all columns
-abbrev pub line_erased : Screen → Screen
-line_erased screen = columns_erased 0 screen.width screen
-
 -- ---- columns that move
 
 -- how many of `count` columns there are from the cursor on

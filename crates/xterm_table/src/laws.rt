@@ -4,10 +4,10 @@
 ghost use Rattle.std.specs.Prelude.{◌≡◌, ◌≤◌, ℕ, List};
 ghost use Rattle.cell_base.specs.Row.{space};
 ghost use Rattle.cell_base.specs.Screen.{Screen};
-ghost use Rattle.xterm_table.specs.Displays.{display_end_erased, display_erased, display_start_erased};
+ghost use Rattle.xterm_table.specs.Displays.{display_end_erased, display_start_erased};
 ghost use Rattle.xterm_table.specs.Follows.{Follows};
 ghost use Rattle.xterm_table.specs.RowEdits.{characters_deleted, characters_erased, characters_inserted};
-ghost use Rattle.xterm_table.specs.RowEdits.{columns_erased, line_end_erased, line_erased, line_start_erased};
+ghost use Rattle.xterm_table.specs.RowEdits.{columns_erased, line_end_erased, line_start_erased};
 ghost use Rattle.xterm_table.specs.RowMoves.{line_fed, lines_deleted, lines_inserted, next_line, reverse_line_fed};
 ghost use Rattle.xterm_table.specs.RowMoves.{rows_down, rows_up};
 
@@ -23,8 +23,6 @@ pub fn erasures_follow()
         → Follows width_of before screen → Follows width_of before (line_end_erased screen) }
     ensures line_start { (width_of : List ℕ → ℕ) (before : Screen) (screen : Screen) → width_of space ≡ 1
         → Follows width_of before screen → Follows width_of before (line_start_erased screen) }
-    ensures line { (width_of : List ℕ → ℕ) (before : Screen) (screen : Screen) → width_of space ≡ 1
-        → Follows width_of before screen → Follows width_of before (line_erased screen) }
 {}
 
 /// ICH and DCH do.
@@ -68,6 +66,4 @@ pub fn display_erasures_follow()
         → Follows width_of before screen → Follows width_of before (display_end_erased screen) }
     ensures display_start { (width_of : List ℕ → ℕ) (before : Screen) (screen : Screen) → width_of space ≡ 1
         → Follows width_of before screen → Follows width_of before (display_start_erased screen) }
-    ensures display { (width_of : List ℕ → ℕ) (before : Screen) (screen : Screen) → width_of space ≡ 1
-        → Follows width_of before screen → Follows width_of before (display_erased screen) }
 {}

@@ -1,45 +1,22 @@
-use Rattle.std.proofs.Common.{◌≡◌, ◌+◌, ◌^◌, ◌≤◌, sym, ap, subst, ◌∙◌, length, List}
-use Rattle.std.specs.Prelude.{None, Option, IfOk, IsErrOf}
-use Rattle.cell_surface.specs.Surface.{number_of, shown_by}
-use Rattle.cell_surface.specs.declared.error.SurfaceError.TheVariants.{Number}
+use Rattle.std.proofs.Common.{◌≡◌, sym, ap}
+use Rattle.std.specs.Prelude.{None, Option}
+use Rattle.cell_surface.specs.Surface.{shown_by}
 use Rattle.escape_stream.specs.StreamActionView.{value_of}
-use Rattle.screen_change.specs.ChangeValue.{ChangeValue}
 use Rattle.terminal_table.specs.Modes.{Modes}
 use Rattle.terminal_table.specs.Requests.{own_request}
 use Rattle.terminal_table.specs.State.{State}
-use Rattle.xterm_steps.specs.Additions.{AddsAll}
+use Rattle.terminal_steps.specs.ProfileView.{kept_modes}
 use Rattle.terminal_steps.specs.TerminalStates.{state_of}
-use Rattle.terminal_steps.proofs.RequestLemmas.{table_changes, table_done, table_refused}
+use Rattle.terminal_steps.proofs.RequestLemmas.{table_carries}
+use Rattle.terminal_steps.specs.declared.profile.Modes as code
 use Rattle.terminal_steps.proofs.actions.apply.Goals as goal
 
-pub returns-in-None-clause-added : goal.returns-in-None-clause-added
-returns-in-None-clause-added g c =
-    let none : None ≡ own_request c.args.modes.now (shown_by c.args.surface.now).screen (value_of c.args.action) = ap (λ (modes : Option Modes). own_request modes (shown_by c.args.surface.now).screen (value_of c.args.action)) (sym c.in-None.is) in
-    let state : State = state_of c.args.surface.now c.args.saved.now c.args.replies.now.items c.args.modes.now in
-    subst (λ (changes : List ChangeValue). IfOk c.apply_table.result (λ _. AddsAll (λ w. g.W.Widths.width_of w) c.args.surface.now c.apply_table.new.surface changes)) (table_changes state (value_of c.args.action) none)
-    (c.apply_table.ensures.added c.args.modes.now)
-
-pub returns-in-None-clause-saved : goal.returns-in-None-clause-saved
-returns-in-None-clause-saved g c =
-    let none : None ≡ own_request c.args.modes.now (shown_by c.args.surface.now).screen (value_of c.args.action) = ap (λ (modes : Option Modes). own_request modes (shown_by c.args.surface.now).screen (value_of c.args.action)) (sym c.in-None.is) in
-    let state : State = state_of c.args.surface.now c.args.saved.now c.args.replies.now.items c.args.modes.now in
-    subst (λ (s : State). IfOk c.apply_table.result (λ _. c.apply_table.new.saved ≡ s.saved)) (table_done state (value_of c.args.action) none) (c.apply_table.ensures.saved c.args.modes.now)
-
-pub returns-in-None-clause-replies : goal.returns-in-None-clause-replies
-returns-in-None-clause-replies g c =
-    let none : None ≡ own_request c.args.modes.now (shown_by c.args.surface.now).screen (value_of c.args.action) = ap (λ (modes : Option Modes). own_request modes (shown_by c.args.surface.now).screen (value_of c.args.action)) (sym c.in-None.is) in
-    let state : State = state_of c.args.surface.now c.args.saved.now c.args.replies.now.items c.args.modes.now in
-    subst (λ (s : State). IfOk c.apply_table.result (λ _. c.apply_table.new.replies.items ≡ s.replies)) (table_done state (value_of c.args.action) none) (c.apply_table.ensures.replies c.args.modes.now)
-
-pub returns-in-None-clause-numbers : goal.returns-in-None-clause-numbers
-returns-in-None-clause-numbers g c =
-    let none : None ≡ own_request c.args.modes.now (shown_by c.args.surface.now).screen (value_of c.args.action) = ap (λ (modes : Option Modes). own_request modes (shown_by c.args.surface.now).screen (value_of c.args.action)) (sym c.in-None.is) in
-    let state : State = state_of c.args.surface.now c.args.saved.now c.args.replies.now.items c.args.modes.now in
-    subst (λ (changes : List ChangeValue). IsErrOf c.apply_table.result Number → 2 ^ 64 ≤ number_of c.args.surface.now + length changes) (table_changes state (value_of c.args.action) none)
-    (c.apply_table.ensures.numbers c.args.modes.now)
-
-pub returns-in-None-clause-memory : goal.returns-in-None-clause-memory
-returns-in-None-clause-memory g c =
-    let none : None ≡ own_request c.args.modes.now (shown_by c.args.surface.now).screen (value_of c.args.action) = ap (λ (modes : Option Modes). own_request modes (shown_by c.args.surface.now).screen (value_of c.args.action)) (sym c.in-None.is) in
-    let state : State = state_of c.args.surface.now c.args.saved.now c.args.replies.now.items c.args.modes.now in
-    λ refused fits. table_refused state (value_of c.args.action) (number_of c.args.surface.now) c.apply_table.new.surface.is_failed none (c.apply_table.ensures.memory c.args.modes.now refused fits)
+pub returns-in-None-clause-done : goal.returns-in-None-clause-done
+returns-in-None-clause-done g c = λ stays can.
+    let modes : Option Modes = kept_modes c.args.modes.now in
+    let state : State = state_of c.args.surface.now c.args.saved.now c.args.replies.now.items modes in
+    let none : None ≡ own_request modes (shown_by c.args.surface.now).screen (value_of c.args.action) =
+    ap (λ (kept : Option code.Modes). own_request (kept_modes kept) (shown_by c.args.surface.now).screen (value_of c.args.action)) (sym c.in-None.is) in
+    let done = c.apply_table.ensures in
+    table_carries state (value_of c.args.action) (λ w. g.W.Widths.width_of w) c.args.surface.now c.apply_table.new.surface c.apply_table.result c.apply_table.new.saved c.apply_table.new.replies.items none
+    (done.added modes) (done.saved modes) (done.replies modes) done.failed (done.numbers modes) (done.memory modes) done.fits

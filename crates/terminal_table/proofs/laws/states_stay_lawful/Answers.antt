@@ -3,7 +3,7 @@ use Rattle.terminal_table.proofs.StateLemmas.{new_is, step_is, run_is, size_is}
 use Rattle.terminal_table.proofs.laws.states_stay_lawful.Goals as goal
 
 pub returns-clause-new : goal.returns-clause-new
-returns-clause-new c = λ width_of. new_is width_of None
+returns-clause-new c = λ width_of width height. new_is width_of None width height tt
 
 pub returns-clause-modes : goal.returns-clause-modes
 returns-clause-modes c = new_is

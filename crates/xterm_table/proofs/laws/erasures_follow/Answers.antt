@@ -1,5 +1,5 @@
 use Rattle.xterm_table.proofs.ColumnLemmas.{IsSoundColumn, sound_kept}
-use Rattle.xterm_table.proofs.FollowLemmas.{characters_erased_follows, erased_follows, follows_with, line_end_erased_follows, line_erased_follows, line_start_erased_follows, with_follows}
+use Rattle.xterm_table.proofs.FollowLemmas.{characters_erased_follows, erased_follows, follows_with, line_end_erased_follows, line_start_erased_follows, with_follows}
 use Rattle.xterm_table.proofs.laws.erasures_follow.Goals as goal
 
 pub returns-clause-columns : goal.returns-clause-columns
@@ -13,6 +13,3 @@ returns-clause-line_end c = λ width_of before screen narrow f. with_follows wid
 
 pub returns-clause-line_start : goal.returns-clause-line_start
 returns-clause-line_start c = λ width_of before screen narrow f. with_follows width_of before _ (line_start_erased_follows (IsSoundColumn width_of) (sound_kept width_of narrow) before screen (follows_with width_of before screen narrow f))
-
-pub returns-clause-line : goal.returns-clause-line
-returns-clause-line c = λ width_of before screen narrow f. with_follows width_of before _ (line_erased_follows (IsSoundColumn width_of) (sound_kept width_of narrow) before screen (follows_with width_of before screen narrow f))
