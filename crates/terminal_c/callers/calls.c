@@ -30,9 +30,10 @@ static uint32_t feed(struct rilqamyn_terminal *t, const char *text) {
 static int closed_handles(void) {
     struct rilqamyn_terminal t = RILQAMYN_CLOSED, open = RILQAMYN_CLOSED;
     struct rilqamyn_bytes out = {(const uint8_t *)"x", 7};
-    struct rilqamyn_row row = {0};
+    struct rilqamyn_row row;
     struct rilqamyn_state state;
     size_t now = 9;
+    memset(&row, 0, sizeof row);
     memset(&state, 1, sizeof state);
     CHECK(rilqamyn_new(&open, 6, 2, RILQAMYN_PLAIN) == RILQAMYN_DONE);
     CHECK(feed(&t, "a") == RILQAMYN_NOT_OPEN);

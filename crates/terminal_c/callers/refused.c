@@ -3,13 +3,18 @@
  * -Wl,--wrap=malloc,--wrap=realloc,--wrap=free, so that the library's requests come here.
  *
  * Each call must answer RILQAMYN_DONE, RILQAMYN_MEMORY, or RILQAMYN_FAILED after a call that changes the terminal was
- * refused; a refused read must leave the terminal as it was; calls that take no memory must make no request; and a
- * closed handle must have freed all. */
+ * refused; each call that takes memory must once have answered RILQAMYN_MEMORY; a refused read must leave the terminal
+ * as it was; calls that take no memory must make no request; and a closed handle must have freed all. */
 #include <rilqamyn.h>
 #include <stdio.h>
 #include <stdlib.h>
 #include <string.h>
 
+/* The calls that take memory, those of rilqamyn_screen by their formats. */
+enum call { NEW, FEED, SETTLE, RESIZE, UPDATE, PATCH, TITLE, ROW_TEXT, ROW, SCREEN_TEXT, SCREEN, CALLS = SCREEN + 4 };
+
+/* Which of them have answered RILQAMYN_MEMORY. */
+static int was_refused[CALLS];
 static long first, last, count, blocks;
 /* The block that was made last. */
 static void *newest;
@@ -59,18 +64,25 @@ static int is_failed(struct rilqamyn_terminal *t) {
     return state.is_failed;
 }
 
-/* What a call that changes the terminal answered. */
-static int changed(struct rilqamyn_terminal *t, int failed_before, uint32_t code) {
+/* What a call answered: whether it was carried out. */
+static int is_done(enum call call, uint32_t code) {
+    CHECK(code == RILQAMYN_DONE || code == RILQAMYN_MEMORY);
+    was_refused[call] |= code == RILQAMYN_MEMORY;
+    return code == RILQAMYN_DONE;
+}
+
+/* What a call that changes the terminal answered: returns whether the terminal has failed then. */
+static int changed(enum call call, struct rilqamyn_terminal *t, int failed_before, uint32_t code) {
     if (failed_before) CHECK(code == RILQAMYN_FAILED);
-    else CHECK(code == RILQAMYN_DONE || code == RILQAMYN_MEMORY);
+    else is_done(call, code);
     if (code == RILQAMYN_DONE) CHECK(!is_failed(t));
     return is_failed(t);
 }
 
 /* What a read answered: the terminal is as it was. */
-static void was_read(struct rilqamyn_terminal *t, int failed, uint32_t code) {
+static void was_read(enum call call, struct rilqamyn_terminal *t, int failed, uint32_t code) {
     if (failed) CHECK(code == RILQAMYN_FAILED);
-    else CHECK(code == RILQAMYN_DONE || code == RILQAMYN_MEMORY);
+    else is_done(call, code);
     CHECK(is_failed(t) == failed);
 }
 
@@ -80,30 +92,28 @@ static void use(void) {
     struct rilqamyn_row row;
     size_t now = 0;
     long before;
-    uint32_t code = rilqamyn_new(&t, 20, 3, RILQAMYN_PLAIN);
-    CHECK(code == RILQAMYN_DONE || code == RILQAMYN_MEMORY);
-    if (code == RILQAMYN_MEMORY) {
+    if (!is_done(NEW, rilqamyn_new(&t, 20, 3, RILQAMYN_PLAIN))) {
         CHECK(feed(&t, "x") == RILQAMYN_NOT_OPEN);
         return;
     }
-    int failed = changed(&t, 0, feed(&t, "one\r\n\x1b[1mtwo\x1b]8;;http://a\x1b\\three\x1b]8;;\x1b\\"));
-    failed = changed(&t, failed, feed(&t, "\x1b]2;title\x1b\\"));
-    failed = changed(&t, failed, feed(&t, "\x1b[6n \xe4\xb8\x96\xcc\x81"));
-    failed = changed(&t, failed, rilqamyn_settle(&t));
-    was_read(&t, failed, rilqamyn_title(&t, &out));
-    was_read(&t, failed, rilqamyn_row_text(&t, 1, &out));
-    was_read(&t, failed, rilqamyn_row(&t, 1, &row));
-    was_read(&t, failed, rilqamyn_screen_text(&t, &out));
+    int failed = changed(FEED, &t, 0, feed(&t, "one\r\n\x1b[1mtwo\x1b]8;;http://a\x1b\\three\x1b]8;;\x1b\\"));
+    failed = changed(FEED, &t, failed, feed(&t, "\x1b]2;title\x1b\\"));
+    failed = changed(FEED, &t, failed, feed(&t, "\x1b[6n \xe4\xb8\x96\xcc\x81"));
+    failed = changed(SETTLE, &t, failed, rilqamyn_settle(&t));
+    was_read(TITLE, &t, failed, rilqamyn_title(&t, &out));
+    was_read(ROW_TEXT, &t, failed, rilqamyn_row_text(&t, 1, &out));
+    was_read(ROW, &t, failed, rilqamyn_row(&t, 1, &row));
+    was_read(SCREEN_TEXT, &t, failed, rilqamyn_screen_text(&t, &out));
     for (uint32_t format = RILQAMYN_ANSI; format <= RILQAMYN_JSON; format++) {
-        was_read(&t, failed, rilqamyn_screen(&t, format, &out));
+        was_read(SCREEN + format, &t, failed, rilqamyn_screen(&t, format, &out));
     }
-    failed = changed(&t, failed, rilqamyn_update(&t, 0, &now, &out));
-    code = rilqamyn_new(&viewer, 20, 3, RILQAMYN_PLAIN);
-    if (code == RILQAMYN_DONE) {
-        failed = changed(&t, failed, rilqamyn_patch(&t, &viewer, &now, &out));
+    failed = changed(UPDATE, &t, failed, rilqamyn_update(&t, 0, &now, &out));
+    if (is_done(NEW, rilqamyn_new(&viewer, 20, 3, RILQAMYN_PLAIN))) {
+        failed = changed(PATCH, &t, failed, rilqamyn_patch(&t, &viewer, &now, &out));
+        was_read(ROW, &viewer, 0, rilqamyn_row(&viewer, 1, &row));
         rilqamyn_free(&viewer);
     }
-    failed = changed(&t, failed, rilqamyn_resize(&t, 7, 2));
+    failed = changed(RESIZE, &t, failed, rilqamyn_resize(&t, 7, 2));
     before = count;
     CHECK(rilqamyn_take_replies(&t, &out) == RILQAMYN_DONE);
     CHECK(rilqamyn_forget_before(&t, now) == (failed ? RILQAMYN_FAILED : RILQAMYN_DONE));
@@ -181,6 +191,7 @@ int main(void) {
         }
         first = 0;
     }
+    for (int call = 0; call < CALLS; call++) CHECK(was_refused[call]);
     printf("refused: %ld requests\n", whole);
     return whole < 20;
 }

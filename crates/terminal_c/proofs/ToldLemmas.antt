@@ -5,7 +5,7 @@ use Rattle.cell_base.specs.Attributes.{Attributes}
 use Rattle.cell_base.specs.Row.{Row}
 use Rattle.cell_base.specs.SameAttributes.{same_attributes_decides}
 use Rattle.cell_base.specs.WholeRow.{IsWhole}
-use Rattle.cell_edits.specs.VisibleCells.{VisibleCell, visible_at, visible_cells, visible_each}
+use Rattle.cell_edits.specs.VisibleCells.{VisibleCell, texts_joined, visible_at, visible_cells, visible_each}
 use Rattle.screen_change.proofs.TextLemmas.{by_test}
 use Rattle.screen_difference.specs.ShownCells.{side_by_side, HaveRoom}
 use Rattle.screen_difference.proofs.SideLemmas.{fewer_each, room_each, room_end, room_visible, side_each, side_visible}
@@ -109,3 +109,23 @@ line_begun telling row cells whole is e =
 pub line_ended : (before after wanted : Told) (column : ℕ) (cells : List VisibleCell) → fold with_cell before (side_by_side column cells) ≡ wanted → cells ≡ [] → after ≡ before → after ≡ wanted
 line_ended before after wanted column cells is none same =
     same ∙ ap (λ (vs : List VisibleCell). fold with_cell before (side_by_side column vs)) (sym none) ∙ is
+
+-- ---- the texts of all cells
+
+text_of_cell : (t : Told) (v : VisibleCell) → (with_cell t v).text ≡ t.text ++ v.cell.text
+text_of_cell t v =
+    let a = v.cell.attributes in
+    let on = goes_on t.last a in
+    by_test on
+    (λ e. ap (λ (u : Told). u.text ++ v.cell.text) (face_stays t a e))
+    (λ e. ap (λ (u : Told). u.text ++ v.cell.text) (left_out on t _ e))
+
+texts_from : (t : Told) (cells : List VisibleCell) → (fold with_cell t cells).text ≡ t.text ++ texts_joined cells
+texts_from t [] = sym (append-nil t.text)
+texts_from t (v ∷ cells) =
+    texts_from (with_cell t v) cells
+    ∙ ap (λ (text : List ℕ). text ++ texts_joined cells) (text_of_cell t v)
+    ∙ append_assoc t.text v.cell.text (texts_joined cells)
+
+pub texts_told : (cells : List VisibleCell) (text : List ℕ) → text ≡ (told cells).text → text ≡ texts_joined cells
+texts_told cells text e = e ∙ texts_from nothing_told cells

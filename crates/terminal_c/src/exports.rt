@@ -312,7 +312,7 @@ pub extern "C" fn rilqamyn_row_text(
 {
     match take(h, alloc) {
         Some(mut kept) => {
-            let code = lend(kept.row_text(row), &kept.bytes, out);
+            let code = lend(kept.row_text(alloc, row), &kept.bytes, out);
             give(h, kept);
             code
         }

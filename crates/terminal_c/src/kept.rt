@@ -18,6 +18,7 @@ use crate::told::{Row, row_of};
 use cell_base::{CursorShape, CursorVisibility};
 use cell_line::Line;
 use std::alloc::Global;
+use std::mem;
 use terminal::{Profile, ProgramWidth, SequenceNo, Surface, Terminal, TerminalError};
 
 /// What a terminal tells of itself in one call.
@@ -316,8 +317,8 @@ impl Kept {
         }
     }
 
-    /// Keeps the text of a row.
-    pub(crate) fn row_text(&mut self, row: usize) -> u32
+    /// Keeps the text of a row. What was kept of its cells is told anew with it.
+    pub(crate) fn row_text(&mut self, alloc: Global, row: usize) -> u32
         ensures part { ReadsPart row (height (screen_of self.old.terminal))
             self.old.terminal self.new.terminal result }
         ensures text { result ≡ DONE
@@ -329,12 +330,13 @@ impl Kept {
         let Some(line) = line_at(self.terminal.surface(), row) else {
             return RANGE;
         };
-        let Ok(text) = line.as_str() else {
-            return MEMORY;
-        };
-        self.bytes.clear();
-        match self.bytes.extend_from_slice(text.as_bytes()) {
-            Ok(()) => DONE,
+        let memory = mem::replace(&mut self.row, Row::new(alloc));
+        match row_of(memory, line) {
+            Ok(mut told) => {
+                mem::swap(&mut self.bytes, &mut told.text);
+                self.row = told;
+                DONE
+            }
             Err(_) => MEMORY,
         }
     }
@@ -352,7 +354,8 @@ impl Kept {
         let Some(line) = line_at(self.terminal.surface(), row) else {
             return RANGE;
         };
-        match row_of(alloc, line) {
+        let memory = mem::replace(&mut self.row, Row::new(alloc));
+        match row_of(memory, line) {
             Ok(told) => {
                 self.row = told;
                 DONE

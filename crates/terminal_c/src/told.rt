@@ -1,8 +1,8 @@
 //! A row, told to C: its cells, and beside them their texts and links.
-ghost use Rattle.std.specs.Prelude.{◌≡◌, [], IfOk, MatchOption, OnOk};
+ghost use Rattle.std.specs.Prelude.{◌≡◌, [], ◌++◌, IfOk, MatchOption, OnOk};
 ghost use Rattle.std.specs.Option.{option_map};
 ghost use Rattle.cell_base.specs.RenditionBytes.{align_byte, blink_byte, intensity_byte, semantic_byte, underline_byte};
-ghost use Rattle.cell_edits.specs.VisibleCells.{visible_cells};
+ghost use Rattle.cell_edits.specs.VisibleCells.{texts_joined, visible_cells};
 ghost use Rattle.cell_views.specs.CellRefView.{cells_left, shown_by};
 ghost use Rattle.screen_difference.specs.ShownCells.{HaveRoom};
 ghost use Rattle.terminal_c.specs.Told.{color_told, goes_on, nothing_told, style_told, told, uri_in};
@@ -124,6 +124,8 @@ impl Row {
 #[derive(Drop)]
 pub(crate) struct Telling<'a> {
     pub(crate) row: Row,
+    // Whether the next cells may be plain: the last cell's text has one byte, or there is no cell yet.
+    pub(crate) tries_plain: bool,
     // The attributes of the last cell, and what the cells that have them share.
     last: Option<&'a CellAttributes>,
     pub(crate) face: Face,
@@ -219,6 +221,16 @@ fn uri_of(attrs: &CellAttributes) -> &[u8]
     }
 }
 
+// Adds the URI of a link. Without a link there is nothing to add.
+fn push_uri(links: &mut Vec<u8>, uri: &[u8]) -> Result<(), AllocError>
+    ensures { OnOk result (links.new.items ≡ links.old.items ++ uri.now) }
+{
+    if uri.is_empty() {
+        return Ok(());
+    }
+    links.extend_from_slice(uri)
+}
+
 // Whether the last cell has these attributes.
 fn goes_on(last: Option<&CellAttributes>, attrs: &CellAttributes) -> bool
     ensures { result ≡ goes_on (option_map (λ a. a.now) last.entry) attrs.now }
@@ -230,16 +242,18 @@ fn goes_on(last: Option<&CellAttributes>, attrs: &CellAttributes) -> bool
 }
 
 impl<'a> Telling<'a> {
-    // Nothing told yet, with room for cells in this many columns.
-    fn with_room(alloc: Global, columns: usize) -> Result<Telling<'a>, AllocError>
+    // Nothing told yet, in the memory of a row that nobody reads any more, with room for cells in this many columns.
+    fn with_room(mut row: Row, columns: usize) -> Result<Telling<'a>, AllocError>
         ensures { IfOk result (λ telling. telling ≡ nothing_told) }
     {
+        row.cells.clear();
+        row.text.clear();
+        row.links.clear();
+        row.cells.reserve(columns)?;
+        row.text.reserve(columns)?;
         Ok(Telling {
-            row: Row {
-                cells: Vec::with_capacity(alloc, columns)?,
-                text: Vec::with_capacity(alloc, columns)?,
-                links: Vec::new(alloc),
-            },
+            row,
+            tries_plain: true,
             last: None,
             face: Face {
                 link_at: 0,
@@ -258,7 +272,7 @@ impl<'a> Telling<'a> {
         }
         let uri = uri_of(attrs);
         let link_at = self.row.links.len();
-        self.row.links.extend_from_slice(uri)?;
+        push_uri(&mut self.row.links, uri)?;
         self.face = Face {
             link_at,
             link_len: uri.len(),
@@ -274,6 +288,7 @@ impl<'a> Telling<'a> {
     {
         let text = cell.str().as_bytes();
         let text_at = self.row.text.len();
+        self.tries_plain = text.len() == 1;
         self.row.text.extend_from_slice(text)?;
         self.row.cells.push(Cell {
             column,
@@ -327,12 +342,12 @@ impl<'a> Telling<'a> {
     }
 }
 
-// Tells all cells of a line.
+// Tells all cells of a line, in the memory of a row.
 #[tactic(auto, using(crate::proofs::ToldLemmas::line_ended))]
-fn telling_of(alloc: Global, line: &Line) -> Result<Telling<'_>, AllocError>
+fn telling_of(row: Row, line: &Line) -> Result<Telling<'_>, AllocError>
     ensures { IfOk result (λ telling. telling ≡ told (visible_cells line.now.columns)) }
 {
-    let mut telling = Telling::with_room(alloc, line.len())?;
+    let mut telling = Telling::with_room(row, line.len())?;
     let mut cells = line.visible_cells();
     let mut column = 0;
     while let Some(count) = telling.push_next(column, &mut cells)? {
@@ -341,9 +356,11 @@ fn telling_of(alloc: Global, line: &Line) -> Result<Telling<'_>, AllocError>
     Ok(telling)
 }
 
-/// A line, told to C.
-pub(crate) fn row_of(alloc: Global, line: &Line) -> Result<Row, AllocError>
-    ensures { IfOk result (λ row. IsTold (visible_cells line.now.columns) row) }
+/// A line, told to C, in the memory of a row that nobody reads any more.
+#[tactic(auto, using(crate::proofs::ToldLemmas::texts_told))]
+pub(crate) fn row_of(row: Row, line: &Line) -> Result<Row, AllocError>
+    ensures told { IfOk result (λ row. IsTold (visible_cells line.now.columns) row) }
+    ensures texts { IfOk result (λ row. row.text.items ≡ texts_joined (visible_cells line.now.columns)) }
 {
-    Ok(telling_of(alloc, line)?.into_row())
+    Ok(telling_of(row, line)?.into_row())
 }

@@ -24,14 +24,15 @@ fn push_cells(
     requires texts { text_at + count < 2 ^ 64 }
     ensures { OnOk result (cells.new.items ≡ cells.old.items ++ each_told column text_at count face) }
 {
+    cells.reserve(count)?;
     for at in 0..count {
-        cells.push(Cell {
+        cells.push_reserved(Cell {
             column: column + at,
             width: 1,
             text_at: text_at + at,
             text_len: 1,
             face,
-        })?;
+        });
     }
     Ok(())
 }
@@ -77,6 +78,9 @@ impl<'a> Telling<'a> {
             ((self.new ≡ self.old) × (cells_left cells.new ≡ cells_left cells.old))
             (λ count. TellsNext column count self.old self.new (cells_left cells.old) (cells_left cells.new))) }
     {
+        if !self.tries_plain {
+            return Ok(None);
+        }
         let Some((text, attrs)) = cells.pass_plain(usize::MAX) else {
             return Ok(None);
         };
