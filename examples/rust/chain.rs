@@ -13,12 +13,13 @@ use std::io::{self, Read, Write};
 // The cells of a terminal, each with its row, its text and its link. Where these lie is no part of it.
 fn cells_of(terminal: &mut Terminal) -> Result<Vec<(usize, usize, rilqamyn::Style, String, String)>, Refused> {
     let mut cells = Vec::new();
-    terminal.each_row(|number, row| {
+    for (number, row) in terminal.rows()?.enumerate() {
+        let row = row?;
         assert_eq!(row.cells().map(|(_, text, _)| text).collect::<String>(), row.text());
         cells.extend(row.cells().map(|(cell, text, link): (&Cell, &str, &str)| {
             (number, cell.column, cell.style, text.to_string(), link.to_string())
         }));
-    })?;
+    }
     Ok(cells)
 }
 

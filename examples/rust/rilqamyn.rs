@@ -1,6 +1,6 @@
 //! The library rilqamyn for Rust: `Terminal`, and what it answers. `include/rilqamyn.h` says what each call does.
 //!
-//! An answer borrows the terminal, so no call can be made while it is in use.
+//! An answer borrows the terminal, so no call can be made while it is in use; a row is a copy.
 use std::{fmt, ptr, slice, str};
 
 mod c {
@@ -153,26 +153,40 @@ pub struct Cell {
     pub style: Style,
 }
 
-/// A row, borrowed from a terminal.
-pub struct Row<'a> {
-    cells: &'a [Cell],
-    text: &'a str,
-    links: &'a str,
+/// A row of a terminal.
+pub struct Row {
+    cells: Vec<Cell>,
+    text: String,
+    links: String,
 }
 
-impl<'a> Row<'a> {
+impl Row {
     /// The texts of the cells, joined.
-    pub fn text(&self) -> &'a str {
-        self.text
+    pub fn text(&self) -> &str {
+        &self.text
     }
 
     /// Each cell with its text and the URI of its link, which is empty where there is none.
-    pub fn cells(&self) -> impl Iterator<Item = (&'a Cell, &'a str, &'a str)> {
-        let (text, links) = (self.text, self.links);
+    pub fn cells(&self) -> impl Iterator<Item = (&Cell, &str, &str)> {
         self.cells.iter().map(move |cell| {
-            let link = &links[cell.link_at..cell.link_at + cell.link_len];
-            (cell, &text[cell.text_at..cell.text_at + cell.text_len], link)
+            let link = &self.links[cell.link_at..cell.link_at + cell.link_len];
+            (cell, &self.text[cell.text_at..cell.text_at + cell.text_len], link)
         })
+    }
+}
+
+/// The rows of a terminal, from the top.
+pub struct Rows<'a> {
+    terminal: &'a mut Terminal,
+    left: std::ops::Range<usize>,
+}
+
+impl Iterator for Rows<'_> {
+    type Item = Result<Row, Refused>;
+
+    fn next(&mut self) -> Option<Result<Row, Refused>> {
+        let row = self.left.next()?;
+        Some(self.terminal.row(row))
     }
 }
 
@@ -238,23 +252,21 @@ impl Terminal {
         answer(|out| unsafe { c::rilqamyn_title(&mut self.0, out) }).map(text_of)
     }
 
-    pub fn row(&mut self, row: usize) -> Result<Row<'_>, Refused> {
+    pub fn row(&mut self, row: usize) -> Result<Row, Refused> {
         let none = || c::Bytes { at: ptr::null(), len: 0 };
         let mut out = c::Row { cells: ptr::null(), count: 0, text: none(), links: none() };
         done(unsafe { c::rilqamyn_row(&mut self.0, row, &mut out) })?;
         Ok(Row {
-            cells: unsafe { slice::from_raw_parts(out.cells, out.count) },
-            text: text_of(unsafe { bytes_of(&out.text) }),
-            links: text_of(unsafe { bytes_of(&out.links) }),
+            cells: unsafe { slice::from_raw_parts(out.cells, out.count) }.to_vec(),
+            text: text_of(unsafe { bytes_of(&out.text) }).to_string(),
+            links: text_of(unsafe { bytes_of(&out.links) }).to_string(),
         })
     }
 
-    /// Calls a function with each row and its number, from the top.
-    pub fn each_row(&mut self, mut call: impl FnMut(usize, Row)) -> Result<(), Refused> {
-        for row in 0..self.state()?.height {
-            call(row, self.row(row)?);
-        }
-        Ok(())
+    /// All rows, from the top.
+    pub fn rows(&mut self) -> Result<Rows<'_>, Refused> {
+        let left = 0..self.state()?.height;
+        Ok(Rows { terminal: self, left })
     }
 
     /// The rows as a text, each with a line feed after it.
