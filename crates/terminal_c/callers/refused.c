@@ -114,6 +114,7 @@ static void use(void) {
         rilqamyn_free(&viewer);
     }
     failed = changed(RESIZE, &t, failed, rilqamyn_resize(&t, 7, 2));
+    failed = changed(RESIZE, &t, failed, rilqamyn_resize(&t, 30, 5));
     before = count;
     CHECK(rilqamyn_take_replies(&t, &out) == RILQAMYN_DONE);
     CHECK(rilqamyn_forget_before(&t, now) == (failed ? RILQAMYN_FAILED : RILQAMYN_DONE));
