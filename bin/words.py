@@ -18,6 +18,8 @@ ROOT = Path(__file__).resolve().parent.parent
 TO_RUN = 3
 BAD_SECONDS = "the value of '--{} <SECONDS>' is no decimal number of seconds from 0 on, or too large, or a step of none"
 HINT = "\n\nFor more information, try '--help'.\n"
+# Options that exclude others, which a program checks once it has read all words.
+CONFLICTS = {("relay", "live"): ("every", "show")}
 # Values that a program checks once it has read all words, and not where they stand.
 LATE = {("relay", "terminal")}
 # What may be a number of seconds, and a step of none.
@@ -137,6 +139,13 @@ class Reading:
     def is_late(self, option):
         return (self.name, option.name) in LATE
 
+    def check_conflicts(self):
+        """Refuses an option that is given with one that it excludes."""
+        for (name, given), excluded in CONFLICTS.items():
+            if name == self.name and given in self.given and any(it in self.given for it in excluded):
+                shown = [f"'{self.options[f'--{it}'].shown}'" for it in excluded]
+                self.refuse(f"the argument '--{given}' cannot be used with {' or '.join(shown)}", self.usage)
+
     def read_option(self, word, left):
         """Reads an option, and its value from the words that are left; returns what is shown in place of a run."""
         option, key, sign, value = self.named(word)
@@ -171,6 +180,7 @@ class Reading:
                     return shown
         for name, value in self.given.items():
             check_value(self.options[f"--{name}"], value)
+        self.check_conflicts()
         bad = fault_of_seconds(self.given)
         if bad:
             self.refuse(BAD_SECONDS.format(bad))

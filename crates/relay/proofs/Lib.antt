@@ -2,6 +2,7 @@ pub mod Numbers
 pub mod Flags
 mod AnswerLemmas
 mod FaultLemmas
+mod LiveLemmas
 mod OutputLemmas
 mod ReadLemmas
 mod SettingFaults

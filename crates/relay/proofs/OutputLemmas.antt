@@ -1,7 +1,7 @@
 -- A writer that keeps its bytes, the cause of status 2, and the report where the status is 1.
-use Rattle.std.proofs.Common.{◌≡◌, ◌≢◌, ◌⊎◌, ℕ, inl, inr, List, [], ◌∷◌, ◌++◌, Option, Some, None, sym, ◌∙◌, append-nil, ap, arith, codes, refl, subst, Result, Err}
+use Rattle.std.proofs.Common.{◌≡◌, ◌≢◌, ◌⊎◌, ℕ, Bool, true, false, inl, inr, List, [], ◌∷◌, ◌++◌, Option, Some, None, sym, ◌∙◌, append-nil, ap, arith, codes, refl, subst, Result, Err}
 use Rattle.std.specs.Io.KnownBytes.{Appends, Keeps}
-use Rattle.std.specs.Prelude.{IfSome}
+use Rattle.std.specs.Prelude.{IfSome, IsErrOf}
 use Rattle.terminal.specs.Shown.{AppendsPrefix}
 use Rattle.terminal.specs.Watched.{Watched}
 use Rattle.terminal.specs.declared.error.RunError.{RunError}
@@ -9,10 +9,12 @@ use Rattle.terminal.specs.declared.error.RunError.TheVariants as run
 use Rattle.terminal_steps.specs.declared.error.TerminalError.TheVariants as terminal
 use Rattle.clap.specs.Words.{Kinds, Text}
 use Rattle.clap.specs.declared.error.kind.ErrorKind.TheVariants as kind
-use Rattle.relay.specs.CommandLine.{HasMistake, IsRefusedFor, asked_in, kind_in}
+use Rattle.relay.specs.CommandLine.{Asked, HasMistake, IsRefusedFor, asked_in, faults_in, kind_in, live_in}
 use Rattle.relay.specs.Faults.{IsReported, fault_line, fault_text}
 use Rattle.relay.specs.Lent.{named}
-use Rattle.relay.specs.Reports.{EndsWithFault, ReportsFault}
+use Rattle.relay.specs.Live.{IsLive}
+use Rattle.relay.specs.Output.{MemoryRunsOut, NumbersRunOut}
+use Rattle.relay.specs.Reports.{EndsWithFault, MayEndWith, ReportsFault}
 use Rattle.relay.specs.declared.options.BadWords.{BadWords}
 use Rattle.relay.proofs.AnswerLemmas.{memory_first}
 
@@ -36,12 +38,57 @@ mistake_in kinds bad status (inr among) memory shown two = (kind_in bad, among, 
 
 -- ---- reports
 
+-- the fault isn't one of the writer with `--live`
+abbrev IsReportedAtOnce : RunError → Bool → Type 0
+IsReportedAtOnce error is_live = error ≡ run.Write → is_live ≡ false
+
 -- a run that ended with a fault is reported with its text
-pub reported_as : {F : Type 0} (contents : F → Option (List ℕ)) (old new : Watched F) (error fault : RunError) (status code : ℕ) (text : List ℕ) → ◌≡◌ {A = Result (Unit {0}) RunError} (Err error) (Err fault)
-    → text ≡ fault_text error → status ≡ code → IsReported contents old new (fault_line text) → (status ≡ code) × IsReported contents old new (fault_line (fault_text fault))
-reported_as contents old new error fault status code text e is one reported =
+pub reported_as : {F : Type 0} (contents : F → Option (List ℕ)) (old new : Watched F) (error fault : RunError) (is_live : Bool) (status code : ℕ)
+    → ◌≡◌ {A = Result (Unit {0}) RunError} (Err error) (Err fault) → IsReportedAtOnce fault is_live → (IsReportedAtOnce error is_live → status ≡ code)
+    → (IsReportedAtOnce error is_live → IsReported contents old new (fault_line (fault_text error)))
+    → (status ≡ code) × IsReported contents old new (fault_line (fault_text fault))
+reported_as contents old new error fault is_live status code e at_once one reported =
     let same : error ≡ fault = cc in
-    (one, subst (λ t. IsReported contents old new (fault_line t)) (is ∙ ap fault_text same) reported)
+    let this : IsReportedAtOnce error is_live = λ w. at_once (sym same ∙ w) in
+    (one this, subst (λ x. IsReported contents old new (fault_line (fault_text x))) same (reported this))
+
+read_at_once : (is_live : Bool) → IsReportedAtOnce run.Read is_live
+read_at_once is_live e = absurd cc
+
+pub read_reported : {F : Type 0} (contents : F → Option (List ℕ)) (old new : Watched F) (error : RunError) (is_live : Bool) (status code : ℕ)
+    → ◌≡◌ {A = Result (Unit {0}) RunError} (Err error) (Err run.Read) → (IsReportedAtOnce error is_live → status ≡ code)
+    → (IsReportedAtOnce error is_live → IsReported contents old new (fault_line (fault_text error)))
+    → (status ≡ code) × IsReported contents old new (fault_line (codes "cannot read"))
+read_reported contents old new error is_live status code e one reported =
+    reported_as contents old new error run.Read is_live status code e (read_at_once is_live) one reported
+
+-- without `--live` a run ends with a fault with which it may end
+pub fault_may_end : (words : List Text) (asked : Asked) (input left old new : Option (List ℕ)) (error : RunError) (is_live : Bool) → asked_in words ≡ asked → live_in words ≡ is_live
+    → live_in words ≡ false → (is_live ≡ false → IsErrOf {T = Unit {0}} (Err error) (run.Terminal terminal.Number) → IfSome input (NumbersRunOut asked))
+    → (is_live ≡ false → IsErrOf {T = Unit {0}} (Err error) (run.Terminal terminal.Memory) → IfSome input (MemoryRunsOut asked left))
+    → (IsErrOf {T = Unit {0}} (Err error) (run.Terminal terminal.Failed) → ⊥)
+    → (IsReportedAtOnce error is_live → AppendsPrefix old new (fault_line (fault_text error))) → IfSome input (ReportsFault words left old new)
+fault_may_end words asked None left old new error is_live same live is number memory never written = tt
+fault_may_end words asked (Some x) left old new error is_live same live is number memory never written =
+    record { fault = error; right = right error number memory never; written = written (λ e. off) }
+  where
+    off : is_live ≡ false
+    off = sym live ∙ is
+
+    right : (fault : RunError) → (is_live ≡ false → IsErrOf {T = Unit {0}} (Err fault) (run.Terminal terminal.Number) → NumbersRunOut asked x)
+        → (is_live ≡ false → IsErrOf {T = Unit {0}} (Err fault) (run.Terminal terminal.Memory) → MemoryRunsOut asked left x)
+        → (IsErrOf {T = Unit {0}} (Err fault) (run.Terminal terminal.Failed) → ⊥) → MayEndWith fault (asked_in words) left x
+    right run.Read n m f = tt
+    right run.Write n m f = tt
+    right run.TooLong n m f = tt
+    right (run.Terminal terminal.Number) n m f = subst (λ a. NumbersRunOut a x) (sym same) (n off refl)
+    right (run.Terminal terminal.Memory) n m f = subst (λ a. MemoryRunsOut a left x) (sym same) (m off refl)
+    right (run.Terminal terminal.Failed) n m f = absurd (f refl)
+
+-- options of words that are run without `--live` aren't live
+pub not_live : (words : List Text) (is_live : Bool) → (IsLive words → ⊥) → faults_in words ≡ [] → live_in words ≡ is_live → is_live ≡ false
+not_live words true none runs is = absurd (none (runs, is))
+not_live words false none runs is = refl
 
 -- words that can be run are refused only for want of memory
 pub of_memory : (kinds : Kinds) (bad : BadWords) → IsRefusedFor kinds bad → kinds ≡ [] → kind_in bad ≡ kind.OutOfMemory
@@ -63,7 +110,7 @@ same_name : (m n : ℕ) (old new gained : List ℕ) → n ∷ new ≡ m ∷ (old
 same_name m n old new gained e = (cc, cc)
 
 -- bytes that are appended through a lent reference are appended to the writer: the reference still refers to it
-lent_appends : {S : Type 0} (contents : S → Option (List ℕ)) (m n : ℕ) (before after end : S) (gained : List ℕ) → (m ≡ n → end ≡ after)
+pub lent_appends : {S : Type 0} (contents : S → Option (List ℕ)) (m n : ℕ) (before after end : S) (gained : List ℕ) → (m ≡ n → end ≡ after)
     → Appends (named m (contents before)) (named n (contents after)) gained → Appends (contents before) (contents end) gained
 lent_appends contents m n before after end gained is appends = by_known (contents before) (contents after) refl appends
   where
@@ -74,6 +121,12 @@ lent_appends contents m n before after end gained is appends = by_known (content
         let same = same_name m n bytes held gained appends in
         let held_is : contents end ≡ Some held = ap contents (is (sym same.0)) ∙ e in
         subst (λ new. Appends (Some bytes) new gained) (sym held_is) same.1
+
+-- so it is from where the reference was lent
+pub lent_on : {S : Type 0} (contents : S → Option (List ℕ)) (m n : ℕ) (first before after end : S) → first ≡ before → (m ≡ n → end ≡ after)
+    → (gained : List ℕ) → Appends (named m (contents first)) (named n (contents after)) gained → Appends (contents before) (contents end) gained
+lent_on contents m n first before after end same is gained appends =
+    subst (λ x. Appends (contents x) (contents end) gained) same (lent_appends contents m n first after end gained is appends)
 
 -- a fault that is reported through a lent reference is reported to the writer
 pub lent_reports : {S : Type 0} (contents : S → Option (List ℕ)) (words : List Text) (left : Option (List ℕ)) (m n : ℕ) (before after end : S) (input : Option (List ℕ)) → (m ≡ n → end ≡ after)

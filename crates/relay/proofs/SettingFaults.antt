@@ -14,11 +14,11 @@ use Rattle.clap.specs.ValueTests.{is_signed_in}
 use Rattle.clap.specs.declared.error.kind.ErrorKind.{ErrorKind}
 use Rattle.clap.specs.declared.error.kind.ErrorKind.TheVariants as kind
 use Rattle.relay.specs.CommandLine.{command_line, flag_rule}
-use Rattle.relay.specs.Settings.{Setting, Terminal, Show, Give, GiveAll, IsInRange, name_of}
+use Rattle.relay.specs.Settings.{Setting, Terminal, Give, GiveAll, IsInRange, name_of}
 use Rattle.relay.proofs.SettingNumbers.{number_taken}
 use Rattle.relay.proofs.SettingRows.{had_none, row_for}
-use Rattle.relay.proofs.SettingWalk.{Valued, Columns, Rows, Profiles, Bytes, IsNew, awaiting, between, held, joined, joined_walk, line, name_for, text_row, row_named, rows_at, settling, show_walk, walked_over, with_text}
-use Rattle.relay.proofs.SettingWords.{Lookup, after_name, dashes, long, short, odd, plain, lookup, Named, valued, show, help, version, unknown, named}
+use Rattle.relay.proofs.SettingWalk.{Flag, LiveFlag, ShowFlag, Valued, Columns, Rows, Profiles, Bytes, IsNew, awaiting, between, flag_name, flag_walk, given_by, held, joined, joined_walk, line, name_for, text_row, row_named, rows_at, settling, walked_over, with_text}
+use Rattle.relay.proofs.SettingWords.{Lookup, after_name, dashes, long, short, odd, plain, lookup, Named, valued, flag, help, version, unknown, named}
 
 abbrev IsFault : Kinds → Type 0
 IsFault kinds = kinds ≡ [] → ⊥
@@ -358,24 +358,36 @@ text_joined k text rest rows pending more p =
           (joined_walk k text rows pending taken.1) (give_joined k text) taken.0 taken.1 next.1,
     )
 
--- `--show`
-show_passes : (rows : List Row) (pending : Option (Text × List Text)) → word_fault line [] false idle (codes "--show") (held rows pending) ≡ []
-    → (settling rows pending ≡ []) × IsNew (rows_at rows pending) Show
+-- `--show` and `--live`
+flag_passes : (k : Flag) (rows : List Row) (pending : Option (Text × List Text)) → word_fault line [] false idle (codes "--" ++ flag_name k) (held rows pending) ≡ []
+    → (settling rows pending ≡ []) × IsNew (rows_at rows pending) (given_by k)
 unfolding command_line
-show_passes rows pending e =
+flag_passes ShowFlag rows pending e =
     let parts = or_else_nil (settling rows pending) (use_fault false (with_index 1 (filled (flag_rule (codes "show")))) [] (rows_at rows pending)) e in
     (parts.0, (use_passes (has_row (codes "show") (rows_at rows pending)) true kind.ArgumentConflict kind.InvalidValue parts.1).0)
+flag_passes LiveFlag rows pending e =
+    let parts = or_else_nil (settling rows pending) (use_fault false (with_index 1 (filled (flag_rule (codes "live")))) [] (rows_at rows pending)) e in
+    (parts.0, (use_passes (has_row (codes "live") (rows_at rows pending)) true kind.ArgumentConflict kind.InvalidValue parts.1).0)
 
-show_alone : (rest : List Text) (rows : List Row) (pending : Option (Text × List Text)) → More rest
-    → Passes (between rows pending) (codes "--show" ∷ rest) → Given rows pending (codes "--show" ∷ rest)
-show_alone rest rows pending more p =
+give_flag : (k : Flag) → Give (given_by k) ((codes "--" ++ flag_name k) ∷ [])
+give_flag ShowFlag = refl
+give_flag LiveFlag = refl
+
+takes_flag : (k : Flag) → Takes (given_by k)
+takes_flag ShowFlag = tt
+takes_flag LiveFlag = tt
+
+flag_alone : (k : Flag) (rest : List Text) (rows : List Row) (pending : Option (Text × List Text)) → More rest
+    → Passes (between rows pending) ((codes "--" ++ flag_name k) ∷ rest) → Given rows pending ((codes "--" ++ flag_name k) ∷ rest)
+flag_alone k rest rows pending more p =
     let before = rows_at rows pending in
-    let first = first_passes (between rows pending) (codes "--show") rest p in
-    let parts = show_passes rows pending (word_passes idle (held rows pending) (codes "--show") first.0) in
-    let passes = subst (λ w. Passes w rest) (show_walk rows pending parts.1) first.1 in
-    let next = more rest (before ++ row_for Show ∷ []) None (omega arith) passes in
-    let after = between (before ++ row_for Show ∷ []) None in
-    (parts.0, given_more (between rows pending) after before Show (codes "--show" ∷ []) rest (show_walk rows pending parts.1) refl tt parts.1 next.1)
+    let word = codes "--" ++ flag_name k in
+    let first = first_passes (between rows pending) word rest p in
+    let parts = flag_passes k rows pending (word_passes idle (held rows pending) word first.0) in
+    let passes = subst (λ w. Passes w rest) (flag_walk k rows pending parts.1) first.1 in
+    let next = more rest (before ++ row_for (given_by k) ∷ []) None (omega arith) passes in
+    let after = between (before ++ row_for (given_by k) ∷ []) None in
+    (parts.0, given_more (between rows pending) after before (given_by k) (word ∷ []) rest (flag_walk k rows pending parts.1) (give_flag k) (takes_flag k) parts.1 next.1)
 
 -- ---- options that aren't the program's, or are requests
 
@@ -383,9 +395,10 @@ word_refused : (rows : List Row) (pending : Option (Text × List Text)) (word : 
     → Passes (between rows pending) (word ∷ rest) → ⊥
 word_refused rows pending word rest fault p = fault (word_passes idle (held rows pending) word (first_passes (between rows pending) word rest p).0)
 
-show_valued : (text : Text) (rows : List Row) (pending : Option (Text × List Text)) → IsFault (word_fault line [] false idle (codes "--" ++ (codes "show" ++ after_name (Some text))) (held rows pending))
+flag_valued : (k : Flag) (text : Text) (rows : List Row) (pending : Option (Text × List Text)) → IsFault (word_fault line [] false idle (codes "--" ++ (flag_name k ++ after_name (Some text))) (held rows pending))
 unfolding command_line
-show_valued text rows pending = some_fault kind.TooManyValues []
+flag_valued ShowFlag text rows pending = some_fault kind.TooManyValues []
+flag_valued LiveFlag text rows pending = some_fault kind.TooManyValues []
 
 help_refused : (text : Option Text) (rows : List Row) (pending : Option (Text × List Text)) → IsFault (word_fault line [] false idle (codes "--" ++ (codes "help" ++ after_name text)) (held rows pending))
 unfolding command_line
@@ -413,10 +426,12 @@ valued_given k None rest rows pending more p =
     subst (GivenBy rows pending rest) (sym same) (text_separate k rest rows pending more (subst (Passing rows pending rest) same p))
 valued_given k (Some text) rest rows pending more p = text_joined k text rest rows pending more p
 
-show_word_given : (text : Option Text) (rest : List Text) (rows : List Row) (pending : Option (Text × List Text)) → More rest
-    → Passing rows pending rest (codes "--" ++ (codes "show" ++ after_name text)) → GivenBy rows pending rest (codes "--" ++ (codes "show" ++ after_name text))
-show_word_given None rest rows pending more p = show_alone rest rows pending more p
-show_word_given (Some text) rest rows pending more p = absurd (word_refused rows pending _ rest (show_valued text rows pending) p)
+flag_given : (k : Flag) (text : Option Text) (rest : List Text) (rows : List Row) (pending : Option (Text × List Text)) → More rest
+    → Passing rows pending rest (codes "--" ++ (flag_name k ++ after_name text)) → GivenBy rows pending rest (codes "--" ++ (flag_name k ++ after_name text))
+flag_given k None rest rows pending more p =
+    let same : codes "--" ++ (flag_name k ++ []) ≡ codes "--" ++ flag_name k = ap (λ name. codes "--" ++ name) (append-nil (flag_name k)) in
+    subst (GivenBy rows pending rest) (sym same) (flag_alone k rest rows pending more (subst (Passing rows pending rest) same p))
+flag_given k (Some text) rest rows pending more p = absurd (word_refused rows pending _ rest (flag_valued k text rows pending) p)
 
 module _ (name : Text) (text : Option Text) (rest : List Text) (rows : List Row) (pending : Option (Text × List Text)) (more : More rest) where
   abbrev spelled_with : Text → Text
@@ -425,8 +440,8 @@ module _ (name : Text) (text : Option Text) (rest : List Text) (rows : List Row)
   named_given : Named name → (arg_by_long line.rules name ≡ None → ⊥) → Passing rows pending rest (spelled_with name) → GivenBy rows pending rest (spelled_with name)
   named_given (valued k is) known p =
       subst (λ n. GivenBy rows pending rest (spelled_with n)) (sym is) (valued_given k text rest rows pending more (subst (λ n. Passing rows pending rest (spelled_with n)) is p))
-  named_given (show is) known p =
-      subst (λ n. GivenBy rows pending rest (spelled_with n)) (sym is) (show_word_given text rest rows pending more (subst (λ n. Passing rows pending rest (spelled_with n)) is p))
+  named_given (flag k is) known p =
+      subst (λ n. GivenBy rows pending rest (spelled_with n)) (sym is) (flag_given k text rest rows pending more (subst (λ n. Passing rows pending rest (spelled_with n)) is p))
   named_given (help is) known p =
       absurd (word_refused rows pending _ rest (help_refused text rows pending) (subst (λ n. Passing rows pending rest (spelled_with n)) is p))
   named_given (version is) known p =

@@ -1,5 +1,5 @@
 -- Words that give options: they have no fault, and the parser reads their texts.
-use Rattle.std.proofs.Common.{◌≡◌, ◌∙◌, ◌||◌, List, [], ◌∷◌, Bool, true, false, cond, Option, Some, None, inl, inr, is_some, refl, ap, arith, sym, true≢false, codes, map}
+use Rattle.std.proofs.Common.{◌≡◌, ◌∙◌, ◌&&◌, ◌||◌, List, [], ◌∷◌, Bool, true, false, cond, Option, Some, None, inl, inr, is_some, refl, ap, arith, sym, true≢false, codes, map}
 use Rattle.std.specs.Prelude.{drop, flat_map, fold, option_and_then, slice_get}
 use Rattle.std.specs.List.{AllByRecursion, IsDistinct}
 use Rattle.std.specs.Str.{bytes_eq}
@@ -11,8 +11,8 @@ use Rattle.clap.specs.Words.{fault_of}
 use Rattle.terminal_steps.specs.declared.profile.Profile.{Profile}
 use Rattle.terminal_steps.specs.declared.profile.Profile.TheVariants.{Plain, Xterm}
 use Rattle.clap.specs.Walk.{Held, Row, Rule, Text, finished, has_row, is_empty, nothing_held, row_text, settled, walk, with_default}
-use Rattle.relay.specs.CommandLine.{command_line, faults_in, is_true, name_faults, number_or, profile_named, terminal_in, text_in, width_in, height_in, every_in, show_in}
-use Rattle.relay.specs.Settings.{Setting, Width, Height, Terminal, Every, Show, IsCommandLine, IsInRange, IsProfile, name_of, width_given, height_given, profile_given, every_given, show_given}
+use Rattle.relay.specs.CommandLine.{command_line, conflict_faults, faults_in, has_conflict, is_given, is_of_words, is_true, name_faults, number_or, profile_named, terminal_in, text_in, width_in, height_in, every_in, show_in, live_in}
+use Rattle.relay.specs.Settings.{Setting, Width, Height, Terminal, Every, Show, Live, IsCommandLine, IsInRange, IsProfile, has_every, name_of, width_given, height_given, profile_given, every_given, show_given, live_given}
 use Rattle.relay.proofs.SettingFaults.{GivenAfter, Takes, or_else_nil, rows_found, some_fault, walk_gives}
 use Rattle.relay.proofs.SettingNumbers.{plain_number}
 use Rattle.relay.proofs.SettingRows.{default_rows_of, defaults_found, find_row, or_row, row_for}
@@ -37,7 +37,7 @@ defaults_pass (a ∷ rules) rows passes =
 -- no default is refused
 no_default_fault : (rows : List Row) → defaults_fault rows line.rules ≡ []
 unfolding command_line
-no_default_fault rows = defaults_pass line.rules rows (refl, (refl, (refl, (refl, (refl, (refl, (refl, tt)))))))
+no_default_fault rows = defaults_pass line.rules rows (refl, (refl, (refl, (refl, (refl, (refl, (refl, (refl, tt))))))))
 
 -- the faults of a walk, or else those found after it
 abbrev faults_after : Held → Option (Text × List Text) → Kinds → Kinds
@@ -85,9 +85,16 @@ given_rows words given =
 abbrev text_given : Text → List Setting → Option Text
 text_given name settings = option_and_then row_text (row_given name settings)
 
-text_is : (name : Text) (words : List Text) (given : IsCommandLine (drop 1 words)) → text_in words name ≡ text_given name given.settings
+-- the settings have the rows that the walk over the words finds
+abbrev AreFound : List Text → List Setting → Type 0
+AreFound words settings = rows_found (between [] None) (drop 1 words) ≡ map row_for settings
+
+text_found : (name : Text) (words : List Text) (settings : List Setting) → AreFound words settings → text_in words name ≡ text_given name settings
 unfolding text_in
-text_is name words given = ap (option_and_then row_text) (row_is name words given.settings (given_rows words given))
+text_found name words settings found = ap (option_and_then row_text) (row_is name words settings found)
+
+text_is : (name : Text) (words : List Text) (given : IsCommandLine (drop 1 words)) → text_in words name ≡ text_given name given.settings
+text_is name words given = text_found name words given.settings (given_rows words given)
 
 width_read : (settings : List Setting) → AllByRecursion IsInRange settings → number_or 80 4096 (text_given (codes "width") settings) ≡ width_given settings
 unfolding command_line number_or
@@ -99,6 +106,7 @@ width_read (Height text ∷ remaining) range = width_read remaining range.1
 width_read (Terminal text ∷ remaining) range = width_read remaining range.1
 width_read (Every text ∷ remaining) range = width_read remaining range.1
 width_read (Show ∷ remaining) range = width_read remaining range.1
+width_read (Live ∷ remaining) range = width_read remaining range.1
 
 height_read : (settings : List Setting) → AllByRecursion IsInRange settings → number_or 24 4096 (text_given (codes "height") settings) ≡ height_given settings
 unfolding command_line number_or
@@ -110,6 +118,7 @@ height_read (Width text ∷ remaining) range = height_read remaining range.1
 height_read (Terminal text ∷ remaining) range = height_read remaining range.1
 height_read (Every text ∷ remaining) range = height_read remaining range.1
 height_read (Show ∷ remaining) range = height_read remaining range.1
+height_read (Live ∷ remaining) range = height_read remaining range.1
 
 every_read : (settings : List Setting) → AllByRecursion IsInRange settings → number_or 4096 4294967295 (text_given (codes "every") settings) ≡ every_given settings
 unfolding command_line number_or
@@ -121,6 +130,7 @@ every_read (Width text ∷ remaining) range = every_read remaining range.1
 every_read (Height text ∷ remaining) range = every_read remaining range.1
 every_read (Terminal text ∷ remaining) range = every_read remaining range.1
 every_read (Show ∷ remaining) range = every_read remaining range.1
+every_read (Live ∷ remaining) range = every_read remaining range.1
 
 show_read : (settings : List Setting) → is_true (text_given (codes "show") settings) ≡ show_given settings
 unfolding command_line is_true
@@ -130,6 +140,28 @@ show_read (Width text ∷ remaining) = show_read remaining
 show_read (Height text ∷ remaining) = show_read remaining
 show_read (Terminal text ∷ remaining) = show_read remaining
 show_read (Every text ∷ remaining) = show_read remaining
+show_read (Live ∷ remaining) = show_read remaining
+
+live_read : (settings : List Setting) → is_true (text_given (codes "live") settings) ≡ live_given settings
+unfolding command_line is_true
+live_read [] = refl
+live_read (Live ∷ remaining) = refl
+live_read (Width text ∷ remaining) = live_read remaining
+live_read (Height text ∷ remaining) = live_read remaining
+live_read (Terminal text ∷ remaining) = live_read remaining
+live_read (Every text ∷ remaining) = live_read remaining
+live_read (Show ∷ remaining) = live_read remaining
+
+-- whether `--every` is given, by the source of its row
+every_source : (settings : List Setting) → is_of_words (option_and_then (λ (r : Row). r.source) (row_given (codes "every") settings)) ≡ has_every settings
+unfolding command_line
+every_source [] = refl
+every_source (Every text ∷ remaining) = refl
+every_source (Width text ∷ remaining) = every_source remaining
+every_source (Height text ∷ remaining) = every_source remaining
+every_source (Terminal text ∷ remaining) = every_source remaining
+every_source (Show ∷ remaining) = every_source remaining
+every_source (Live ∷ remaining) = every_source remaining
 
 pub width_is : (words : List Text) (given : IsCommandLine (drop 1 words)) → width_in words ≡ width_given given.settings
 width_is words given = ap (number_or 80 4096) (text_is (codes "width") words given) ∙ width_read given.settings given.in_range
@@ -142,6 +174,28 @@ every_is words given = ap (number_or 4096 4294967295) (text_is (codes "every") w
 
 pub show_is : (words : List Text) (given : IsCommandLine (drop 1 words)) → show_in words ≡ show_given given.settings
 show_is words given = ap is_true (text_is (codes "show") words given) ∙ show_read given.settings
+
+pub live_is : (words : List Text) (given : IsCommandLine (drop 1 words)) → live_in words ≡ live_given given.settings
+live_is words given = ap is_true (text_is (codes "live") words given) ∙ live_read given.settings
+
+-- ---- options that exclude each other
+
+every_found : (words : List Text) (settings : List Setting) → AreFound words settings → is_given words (codes "every") ≡ has_every settings
+unfolding is_given
+every_found words settings found =
+    ap (λ row. is_of_words (option_and_then (λ (r : Row). r.source) row)) (row_is (codes "every") words settings found) ∙ every_source settings
+
+conflict_found : (words : List Text) (settings : List Setting) → AreFound words settings
+    → has_conflict words ≡ (live_given settings && (has_every settings || show_given settings))
+conflict_found words settings found =
+    let live = ap is_true (text_found (codes "live") words settings found) ∙ live_read settings in
+    let show = ap is_true (text_found (codes "show") words settings found) ∙ show_read settings in
+    let every = every_found words settings found in
+    λ i. live i && (every i || show i)
+
+conflict_passes : (b : Bool) → conflict_faults b ≡ [] → b ≡ false
+conflict_passes true e = absurd (some_fault _ _ e)
+conflict_passes false e = refl
 
 -- ---- the profile
 
@@ -167,6 +221,7 @@ named_read (Width text ∷ remaining) range = named_read remaining range.1
 named_read (Height text ∷ remaining) range = named_read remaining range.1
 named_read (Every text ∷ remaining) range = named_read remaining range.1
 named_read (Show ∷ remaining) range = named_read remaining range.1
+named_read (Live ∷ remaining) range = named_read remaining range.1
 
 pub profile_is : (words : List Text) (given : IsCommandLine (drop 1 words)) → terminal_in words ≡ Some (profile_given given.settings)
 profile_is words given = named_is words given.settings (given_rows words given) ∙ named_read given.settings given.in_range
@@ -192,6 +247,7 @@ others_in_range (Width text ∷ remaining) taken other = (taken.0, others_in_ran
 others_in_range (Height text ∷ remaining) taken other = (taken.0, others_in_range remaining taken.1 other.1)
 others_in_range (Every text ∷ remaining) taken other = (taken.0, others_in_range remaining taken.1 other.1)
 others_in_range (Show ∷ remaining) taken other = (tt, others_in_range remaining taken.1 other.1)
+others_in_range (Live ∷ remaining) taken other = (tt, others_in_range remaining taken.1 other.1)
 
 all_in_range : (settings : List Setting) → AllByRecursion Takes settings → IsDistinct bytes_eq (map name_of settings) → name_faults (named_given settings) ≡ []
     → AllByRecursion IsInRange settings
@@ -202,18 +258,32 @@ all_in_range (Width text ∷ remaining) taken once none = (taken.0, all_in_range
 all_in_range (Height text ∷ remaining) taken once none = (taken.0, all_in_range remaining taken.1 once.1 none)
 all_in_range (Every text ∷ remaining) taken once none = (taken.0, all_in_range remaining taken.1 once.1 none)
 all_in_range (Show ∷ remaining) taken once none = (tt, all_in_range remaining taken.1 once.1 none)
+all_in_range (Live ∷ remaining) taken once none = (tt, all_in_range remaining taken.1 once.1 none)
 
 -- ---- the whole
 
 pub no_faults : (words : List Text) → IsCommandLine (drop 1 words) → faults_in words ≡ []
 unfolding faults_in
-no_faults words given = rw (parsed words given, profile_is words given) refl
+no_faults words given =
+    let parses = parsed words given in
+    let named = profile_is words given in
+    let alone = conflict_found words given.settings (given_rows words given) ∙ given.no_conflict in
+    λ i. or_else (parses i) (or_else (name_faults (named i)) (conflict_faults (alone i)))
 
 -- words without a fault are a command line that can be run
 pub options_given : (words : List Text) → faults_in words ≡ [] → IsCommandLine (drop 1 words)
 unfolding faults_in
 options_given words none =
-    let parts = or_else_nil (fault_of command_line words) (name_faults (terminal_in words)) none in
+    let names = name_faults (terminal_in words) in
+    let conflicts = conflict_faults (has_conflict words) in
+    let parts = or_else_nil (fault_of command_line words) (or_else names conflicts) none in
+    let last = or_else_nil names conflicts parts.1 in
     let given = found words parts.0 in
-    let named = ap name_faults (sym (named_is words given.settings given.found)) ∙ parts.1 in
-    record { settings = given.settings; given = given.give; in_range = all_in_range given.settings given.taken given.distinct named; once = given.distinct }
+    let named = ap name_faults (sym (named_is words given.settings given.found)) ∙ last.0 in
+    record {
+      settings = given.settings;
+      given = given.give;
+      in_range = all_in_range given.settings given.taken given.distinct named;
+      once = given.distinct;
+      no_conflict = sym (conflict_found words given.settings given.found) ∙ conflict_passes (has_conflict words) last.1;
+    }

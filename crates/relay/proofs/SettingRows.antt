@@ -8,7 +8,7 @@ use Rattle.clap.specs.Walk.{Row, Rule, Text, at_row, default_rows, has_row, more
 use Rattle.clap.specs.declared.parser.matches.ValueSource.TheVariants.{DefaultValue, CommandLine}
 use Rattle.clap.specs.declared.builder.value_parser.Reading.{Reading}
 use Rattle.clap.specs.declared.builder.value_parser.Reading.TheVariants as reading
-use Rattle.relay.specs.Settings.{Setting, Width, Height, Terminal, Every, Show}
+use Rattle.relay.specs.Settings.{Setting, Width, Height, Terminal, Every, Show, Live}
 
 -- the row of an option that was given
 abbrev pub row_with : Text → Reading → Text → Row
@@ -20,6 +20,7 @@ row_for (Height text) = row_with (codes "height") reading.WithoutMinus text
 row_for (Terminal text) = row_with (codes "terminal") reading.AsWritten text
 row_for (Every text) = row_with (codes "every") reading.WithoutMinus text
 row_for Show = row_with (codes "show") reading.AsWritten (codes "true")
+row_for Live = row_with (codes "live") reading.AsWritten (codes "true")
 
 abbrev pub find_row : Text → List Row → Option Row
 find_row id rows = find (λ r. bytes_eq r.id id) rows

@@ -11,7 +11,7 @@ use Rattle.clap.specs.Simple.{Shape, built}
 use Rattle.clap.specs.Walk.{Held, Row, Text, Walk, has_row, idle, option, settled_rows, walked}
 use Rattle.clap.specs.declared.builder.value_parser.Reading.TheVariants as reading
 use Rattle.relay.specs.CommandLine.{command_line}
-use Rattle.relay.specs.Settings.{Setting, Width, Height, Terminal, Every, Show, Give, GiveAll, IsInRange, name_of}
+use Rattle.relay.specs.Settings.{Setting, Width, Height, Terminal, Every, Show, Live, Give, GiveAll, IsInRange, name_of}
 use Rattle.relay.proofs.SettingNumbers.{plain_number, profile_word}
 use Rattle.relay.proofs.SettingRows.{has_more, row_for, used_once}
 
@@ -33,6 +33,19 @@ name_for Columns = codes "width"
 name_for Rows = codes "height"
 name_for Profiles = codes "terminal"
 name_for Bytes = codes "every"
+
+-- the options that take none
+pub data Flag : Type 0 where
+  ShowFlag : Flag
+  LiveFlag : Flag
+
+abbrev pub given_by : Flag → Setting
+given_by ShowFlag = Show
+given_by LiveFlag = Live
+
+abbrev pub flag_name : Flag → Text
+flag_name ShowFlag = codes "show"
+flag_name LiveFlag = codes "live"
 
 -- the command line as the parser completes it
 abbrev pub line : Shape
@@ -129,16 +142,18 @@ joined_fault Rows text rows pending settles range new = rw (settles, new, (plain
 joined_fault Profiles text rows pending settles range new = rw (settles, new) refl
 joined_fault Bytes text rows pending settles range new = rw (settles, new, (plain_number 4294967295 text (omega arith) range).signed) refl
 
--- `--show`
-pub show_walk : (rows : List Row) (pending : Option (Text × List Text)) → IsNew (rows_at rows pending) Show
-    → walked line.rules [] (between rows pending) (codes "--show") ≡ between (rows_at rows pending ++ row_for Show ∷ []) None
+-- `--show` and `--live`
+pub flag_walk : (k : Flag) (rows : List Row) (pending : Option (Text × List Text)) → IsNew (rows_at rows pending) (given_by k)
+    → walked line.rules [] (between rows pending) (codes "--" ++ flag_name k) ≡ between (rows_at rows pending ++ row_for (given_by k) ∷ []) None
 unfolding command_line walked
-show_walk rows pending new = ap (λ rs. between rs None) (used_once (codes "show") reading.AsWritten (codes "true") (rows_at rows pending) new)
+flag_walk ShowFlag rows pending new = ap (λ rs. between rs None) (used_once (codes "show") reading.AsWritten (codes "true") (rows_at rows pending) new)
+flag_walk LiveFlag rows pending new = ap (λ rs. between rs None) (used_once (codes "live") reading.AsWritten (codes "true") (rows_at rows pending) new)
 
-show_fault : (rows : List Row) (pending : Option (Text × List Text)) → settling rows pending ≡ [] → IsNew (rows_at rows pending) Show
-    → turn_fault line [] (between rows pending) (codes "--show") ≡ []
+flag_fault : (k : Flag) (rows : List Row) (pending : Option (Text × List Text)) → settling rows pending ≡ [] → IsNew (rows_at rows pending) (given_by k)
+    → turn_fault line [] (between rows pending) (codes "--" ++ flag_name k) ≡ []
 unfolding command_line
-show_fault rows pending settles new = rw (settles, new) refl
+flag_fault ShowFlag rows pending settles new = rw (settles, new) refl
+flag_fault LiveFlag rows pending settles new = rw (settles, new) refl
 
 one_fault : (w : Walk) (word : Text) → turn_fault line [] w word ≡ [] → walk_fault line [] w (word ∷ []) ≡ []
 unfolding walk_fault
@@ -170,21 +185,26 @@ text_leads k text words rows pending settles range new (inr is) =
       rows_are = refl;
     })
 
+flag_leads : (k : Flag) (words : List Text) (rows : List Row) (pending : Option (Text × List Text)) → settling rows pending ≡ []
+    → IsNew (rows_at rows pending) (given_by k) → words ≡ (codes "--" ++ flag_name k) ∷ [] → Leads rows pending (given_by k) words
+flag_leads k words rows pending settles new is =
+    subst (Leads rows pending (given_by k)) (sym is) (record {
+      rows = rows_at rows pending ++ row_for (given_by k) ∷ [];
+      pending = None;
+      walk = flag_walk k rows pending new;
+      fault = one_fault (between rows pending) (codes "--" ++ flag_name k) (flag_fault k rows pending settles new);
+      settles = refl;
+      rows_are = refl;
+    })
+
 option_leads : (s : Setting) (words : List Text) (rows : List Row) (pending : Option (Text × List Text)) → settling rows pending ≡ []
     → IsInRange s → IsNew (rows_at rows pending) s → Give s words → Leads rows pending s words
 option_leads (Width text) words rows pending settles range new give = text_leads Columns text words rows pending settles range new give
 option_leads (Height text) words rows pending settles range new give = text_leads Rows text words rows pending settles range new give
 option_leads (Terminal text) words rows pending settles range new give = text_leads Profiles text words rows pending settles range new give
 option_leads (Every text) words rows pending settles range new give = text_leads Bytes text words rows pending settles range new give
-option_leads Show words rows pending settles range new is =
-    subst (Leads rows pending Show) (sym is) (record {
-      rows = rows_at rows pending ++ row_for Show ∷ [];
-      pending = None;
-      walk = show_walk rows pending new;
-      fault = one_fault (between rows pending) (codes "--show") (show_fault rows pending settles new);
-      settles = refl;
-      rows_are = refl;
-    })
+option_leads Show words rows pending settles range new is = flag_leads ShowFlag words rows pending settles new is
+option_leads Live words rows pending settles range new is = flag_leads LiveFlag words rows pending settles new is
 
 -- ---- all of them
 
@@ -254,6 +274,7 @@ row_named (Height text) = refl
 row_named (Terminal text) = refl
 row_named (Every text) = refl
 row_named Show = refl
+row_named Live = refl
 
 still_new : (s : Setting) (rows : List Row) (remaining : List Setting) → AllByRecursion (λ name. bytes_eq (name_of s) name ≡ false) (map name_of remaining)
     → AllByRecursion (IsNew rows) remaining → AllByRecursion (IsNew (rows ++ row_for s ∷ [])) remaining

@@ -8,7 +8,7 @@ use Rattle.std.proofs.lemmas.Slice.Eq.{bytes_eq-Decides}
 use Rattle.clap.specs.Lexer.{has_byte, long_of, short_of}
 use Rattle.clap.specs.Walk.{Text, arg_by_long}
 use Rattle.relay.specs.CommandLine.{command_line}
-use Rattle.relay.proofs.SettingWalk.{Valued, Columns, Rows, Profiles, Bytes, line, name_for}
+use Rattle.relay.proofs.SettingWalk.{Flag, LiveFlag, ShowFlag, Valued, Columns, Rows, Profiles, Bytes, flag_name, line, name_for}
 
 -- the part of a word after the name of an option
 abbrev pub after_name : Option Text → Text
@@ -77,7 +77,7 @@ lookup (byte ∷ rest) = by_test (byte == 45) refl
 -- the names that the command line knows
 pub data Named (name : Text) : Type 0 where
   valued : (k : Valued) → name ≡ name_for k → Named name
-  show : name ≡ codes "show" → Named name
+  flag : (k : Flag) → name ≡ flag_name k → Named name
   help : name ≡ codes "help" → Named name
   version : name ≡ codes "version" → Named name
   unknown : arg_by_long line.rules name ≡ None → Named name
@@ -87,24 +87,25 @@ abbrev Is : Text → Text → Bool → Type 0
 Is known name t = bytes_eq known name ≡ t
 
 none_known : (name : Text) → Is (codes "width") name false → Is (codes "height") name false → Is (codes "terminal") name false → Is (codes "every") name false
-    → Is (codes "show") name false → Is (codes "help") name false → Is (codes "version") name false → arg_by_long line.rules name ≡ None
+    → Is (codes "show") name false → Is (codes "live") name false → Is (codes "help") name false → Is (codes "version") name false → arg_by_long line.rules name ≡ None
 unfolding command_line
-none_known name w h t e s a v = rw (w, h, t, e, s, a, v) refl
+none_known name w h t e s l a v = rw (w, h, t, e, s, l, a, v) refl
 
 same : (known name : Text) → Is known name true → name ≡ known
 same known name e = sym ((bytes_eq-Decides known name).0 e)
 
 pub named : (name : Text) → Named name
 named name = by_tests (bytes_eq (codes "width") name) (bytes_eq (codes "height") name) (bytes_eq (codes "terminal") name) (bytes_eq (codes "every") name)
-    (bytes_eq (codes "show") name) (bytes_eq (codes "help") name) (bytes_eq (codes "version") name) refl refl refl refl refl refl refl
+    (bytes_eq (codes "show") name) (bytes_eq (codes "live") name) (bytes_eq (codes "help") name) (bytes_eq (codes "version") name) refl refl refl refl refl refl refl refl
   where
-    by_tests : (w h t e s a v : Bool) → Is (codes "width") name w → Is (codes "height") name h → Is (codes "terminal") name t → Is (codes "every") name e
-        → Is (codes "show") name s → Is (codes "help") name a → Is (codes "version") name v → Named name
-    by_tests true h t e s a v is1 is2 is3 is4 is5 is6 is7 = valued Columns (same (codes "width") name is1)
-    by_tests false true t e s a v is1 is2 is3 is4 is5 is6 is7 = valued Rows (same (codes "height") name is2)
-    by_tests false false true e s a v is1 is2 is3 is4 is5 is6 is7 = valued Profiles (same (codes "terminal") name is3)
-    by_tests false false false true s a v is1 is2 is3 is4 is5 is6 is7 = valued Bytes (same (codes "every") name is4)
-    by_tests false false false false true a v is1 is2 is3 is4 is5 is6 is7 = show (same (codes "show") name is5)
-    by_tests false false false false false true v is1 is2 is3 is4 is5 is6 is7 = help (same (codes "help") name is6)
-    by_tests false false false false false false true is1 is2 is3 is4 is5 is6 is7 = version (same (codes "version") name is7)
-    by_tests false false false false false false false is1 is2 is3 is4 is5 is6 is7 = unknown (none_known name is1 is2 is3 is4 is5 is6 is7)
+    by_tests : (w h t e s l a v : Bool) → Is (codes "width") name w → Is (codes "height") name h → Is (codes "terminal") name t → Is (codes "every") name e
+        → Is (codes "show") name s → Is (codes "live") name l → Is (codes "help") name a → Is (codes "version") name v → Named name
+    by_tests true h t e s l a v is1 is2 is3 is4 is5 is6 is7 is8 = valued Columns (same (codes "width") name is1)
+    by_tests false true t e s l a v is1 is2 is3 is4 is5 is6 is7 is8 = valued Rows (same (codes "height") name is2)
+    by_tests false false true e s l a v is1 is2 is3 is4 is5 is6 is7 is8 = valued Profiles (same (codes "terminal") name is3)
+    by_tests false false false true s l a v is1 is2 is3 is4 is5 is6 is7 is8 = valued Bytes (same (codes "every") name is4)
+    by_tests false false false false true l a v is1 is2 is3 is4 is5 is6 is7 is8 = flag ShowFlag (same (codes "show") name is5)
+    by_tests false false false false false true a v is1 is2 is3 is4 is5 is6 is7 is8 = flag LiveFlag (same (codes "live") name is6)
+    by_tests false false false false false false true v is1 is2 is3 is4 is5 is6 is7 is8 = help (same (codes "help") name is7)
+    by_tests false false false false false false false true is1 is2 is3 is4 is5 is6 is7 is8 = version (same (codes "version") name is8)
+    by_tests false false false false false false false false is1 is2 is3 is4 is5 is6 is7 is8 = unknown (none_known name is1 is2 is3 is4 is5 is6 is7 is8)

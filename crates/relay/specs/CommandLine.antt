@@ -1,19 +1,22 @@
 -- The command line of the program: its options, and the values that words give them, as the kit's `clap` reads words.
-use Rattle.std.specs.Prelude.{◌≢◌, ℕ, pos, Bool, ◌&&◌, nat_lt, nat_le, true, false, List, [], ◌∷◌, Option, Some, None}
+use Rattle.std.specs.Prelude.{◌≢◌, ℕ, pos, Bool, ◌&&◌, ◌||◌, nat_lt, nat_le, true, false, List, [], ◌∷◌, Option, Some}
+use Rattle.std.specs.Prelude.{None, find}
 use Rattle.std.specs.Prelude.{◌≡◌, ◌⊎◌, Result, Ok, Err, MatchResult, codes, if◌then◌else◌, option_and_then, unwrap_or}
 use Rattle.std.specs.Str.{bytes_eq}
 use Rattle.std.specs.Str.Parse.{digits_value, without_leading_plus}
 use Rattle.clap.specs.Simple.{on_top}
 use Rattle.clap.specs.ValueTests.{is_unsigned_in}
 use Rattle.clap.specs.Kinds.{or_else}
-use Rattle.clap.specs.Words.{App, IsAmong, Rule, Text, Kinds, new_app, new_rule, with_rule, matches_of, one_of}
+use Rattle.clap.specs.Words.{App, IsAmong, Row, Rule, Text, Kinds, new_app, new_rule, with_rule, matches_of, one_of}
 use Rattle.clap.specs.Words.{fault_of, first_of, kind_of}
 use Rattle.clap.specs.declared.error.kind.ErrorKind.{ErrorKind}
 use Rattle.clap.specs.declared.error.kind.ErrorKind.TheVariants as kind
 use Rattle.clap.specs.declared.builder.action.ArgAction.TheVariants.{SetTrue}
 use Rattle.clap.specs.declared.builder.value_parser.ValueParser.TheVariants as value_parser
+use Rattle.clap.specs.declared.parser.matches.ValueSource.{ValueSource}
+use Rattle.clap.specs.declared.parser.matches.ValueSource.TheVariants as source
 use Rattle.relay.specs.declared.options.BadWords.{BadWords}
-use Rattle.relay.specs.declared.options.BadWords.TheVariants.{Command, Terminal}
+use Rattle.relay.specs.declared.options.BadWords.TheVariants.{Command, Terminal, Conflict}
 use Rattle.terminal_steps.specs.declared.profile.Profile.{Profile}
 use Rattle.terminal_steps.specs.declared.profile.Profile.TheVariants.{Plain, Xterm}
 
@@ -40,15 +43,16 @@ flag_rule name = record (new_rule name) { long = Some name; action = Some SetTru
 abbrev pub named : App
 named = on_top (λ shape. record shape { has_version = true }) (new_app (codes "relay"))
 
--- the program with its five options
+-- the program with its six options
 unfoldable pub command_line : App
 command_line =
-    with_rule (with_rule (with_rule (with_rule (with_rule named
+    with_rule (with_rule (with_rule (with_rule (with_rule (with_rule named
     (number_rule (codes "width") (codes "80") 4096))
     (number_rule (codes "height") (codes "24") 4096))
     (text_rule (codes "terminal") (codes "plain")))
     (number_rule (codes "every") (codes "4096") 4294967295))
-    (flag_rule (codes "show"))
+    (flag_rule (codes "show")))
+    (flag_rule (codes "live"))
 
 -- one of some kinds of error is a mistake, and no request for help or for the version
 abbrev pub HasMistake : Kinds → Type 0
@@ -67,14 +71,11 @@ abbrev pub name_faults : Option Profile → Kinds
 name_faults None = kind.InvalidValue ∷ []
 name_faults (Some profile) = []
 
--- the kinds of error that the words may give: none where they are a command line to run
-unfoldable pub faults_in : List Text → Kinds
-faults_in words = or_else (fault_of command_line words) (name_faults (terminal_in words))
-
 -- the kind of the error for which words are refused
 abbrev pub kind_in : BadWords → ErrorKind
 kind_in (Command error) = kind_of error
 kind_in (Terminal name) = kind.InvalidValue
+kind_in Conflict = kind.ArgumentConflict
 
 -- the profile that was read; `None` where its name is refused
 abbrev pub profile_read : Result Profile BadWords → Option Profile
@@ -121,6 +122,36 @@ is_true (Some text) = bytes_eq text (codes "true")
 abbrev pub show_in : List Text → Bool
 show_in words = is_true (text_in words (codes "show"))
 
+abbrev pub live_in : List Text → Bool
+live_in words = is_true (text_in words (codes "live"))
+
+-- the values were given by the words, and are no default
+abbrev pub is_of_words : Option ValueSource → Bool
+is_of_words (Some source.CommandLine) = true
+is_of_words _ = false
+
+-- where the values of an option come from
+abbrev pub source_of : Text → List Row → Option ValueSource
+source_of name rows = option_and_then (λ (r : Row). r.source) (find (λ r. bytes_eq r.id name) rows)
+
+-- whether the words give an option
+unfoldable pub is_given : List Text → Text → Bool
+is_given words name = is_of_words (source_of name (matches_of command_line words))
+
+-- whether `--live` is given with `--every` or `--show`, by which other updates or none are written
+abbrev pub has_conflict : List Text → Bool
+has_conflict words = live_in words && (is_given words (codes "every") || show_in words)
+
+abbrev pub conflict_faults : Bool → Kinds
+conflict_faults true = kind.ArgumentConflict ∷ []
+conflict_faults false = []
+
+-- the kinds of error that the words may give: none where they are a command line to run
+unfoldable pub faults_in : List Text → Kinds
+faults_in words =
+    or_else (fault_of command_line words)
+    (or_else (name_faults (terminal_in words)) (conflict_faults (has_conflict words)))
+
 -- what a command line asks for
 pub record Asked : Type 0 where
   pub width : ℕ
@@ -128,6 +159,7 @@ pub record Asked : Type 0 where
   pub profile : Profile
   pub every : ℕ
   pub is_show : Bool
+  pub is_live : Bool
 
 unfoldable pub asked_in : List Text → Asked
 asked_in words = record {
@@ -136,4 +168,5 @@ asked_in words = record {
   profile = unwrap_or (terminal_in words) Plain;
   every = every_in words;
   is_show = show_in words;
+  is_live = live_in words;
 }

@@ -1,6 +1,7 @@
 pub mod CommandLine
 pub mod Faults
 pub mod Lent
+pub mod Live
 pub mod Output
 pub mod Reports
 pub mod Settings

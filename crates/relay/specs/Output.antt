@@ -19,6 +19,7 @@ asked_of options = record {
   profile = options.profile;
   every = options.every;
   is_show = options.is_show;
+  is_live = options.is_live;
 }
 
 -- the standing of a new terminal of the size and the profile that are asked for
@@ -26,7 +27,8 @@ abbrev pub first_standing : Asked → Standing
 first_standing asked = record (new_standing asked.width asked.height)
     { view = new_view_with (modes_of asked.profile) asked.width asked.height }
 
--- the output for an input: with `--show` the rows of the screen, each with a line feed after it, and else the updates
+-- the output for an input, without `--live`: with `--show` the rows of the screen, each with a line feed after it, and
+-- else the updates
 unfoldable pub written : Asked → List ℕ → List ℕ
 written asked input =
     if asked.is_show then rows_after program_width (first_standing asked) input

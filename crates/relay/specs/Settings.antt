@@ -1,6 +1,6 @@
 -- Which words are a command line that can be run, and the values that they give the options.
 use Rattle.std.specs.Prelude.{◌≡◌, ◌<◌, ◌≤◌, ◌⊎◌, ⊤, ℕ, Bool, true, false, List, [], ◌∷◌, ◌++◌, codes, map}
-use Rattle.std.specs.Prelude.{if◌then◌else◌}
+use Rattle.std.specs.Prelude.{◌&&◌, ◌||◌, if◌then◌else◌}
 use Rattle.std.specs.List.{AllByRecursion, IsDistinct}
 use Rattle.std.specs.Str.{bytes_eq}
 use Rattle.std.specs.Str.Parse.{IsNumeral, digits_value, without_leading_plus}
@@ -15,6 +15,7 @@ pub data Setting : Type 0 where
   Terminal : Text → Setting
   Every : Text → Setting
   Show : Setting
+  Live : Setting
 
 abbrev pub name_of : Setting → Text
 name_of (Width text) = codes "width"
@@ -22,6 +23,7 @@ name_of (Height text) = codes "height"
 name_of (Terminal text) = codes "terminal"
 name_of (Every text) = codes "every"
 name_of Show = codes "show"
+name_of Live = codes "live"
 
 -- the words are `--name text`, or the one word `--name=text`
 abbrev pub GiveText : Text → Text → List Text → Type 0
@@ -35,6 +37,7 @@ Give (Height text) words = GiveText (codes "height") text words
 Give (Terminal text) words = GiveText (codes "terminal") text words
 Give (Every text) words = GiveText (codes "every") text words
 Give Show words = words ≡ codes "--show" ∷ []
+Give Live words = words ≡ codes "--live" ∷ []
 
 -- the words give these options, one after the other; `--` may follow them
 abbrev pub GiveAll : List Setting → List Text → Type 0
@@ -61,14 +64,7 @@ IsInRange (Height text) = IsNumberTo 4096 text
 IsInRange (Terminal text) = IsProfile text
 IsInRange (Every text) = IsNumberTo 4294967295 text
 IsInRange Show = ⊤
-
--- the words, those after the program's name, are a command line that can be run
-pub record IsCommandLine (words : List Text) : Type 0 where
-  pub settings : List Setting
-  pub given : GiveAll settings words
-  pub in_range : AllByRecursion IsInRange settings
-  -- no option is given twice
-  pub once : IsDistinct bytes_eq (map name_of settings)
+IsInRange Live = ⊤
 
 -- the columns of the screen, or the default of 80
 abbrev pub width_given : List Setting → ℕ
@@ -99,3 +95,25 @@ abbrev pub show_given : List Setting → Bool
 show_given [] = false
 show_given (Show ∷ remaining) = true
 show_given (_ ∷ remaining) = show_given remaining
+
+-- whether an update is to be written after each read
+abbrev pub live_given : List Setting → Bool
+live_given [] = false
+live_given (Live ∷ remaining) = true
+live_given (_ ∷ remaining) = live_given remaining
+
+-- whether `--every` is given
+abbrev pub has_every : List Setting → Bool
+has_every [] = false
+has_every (Every text ∷ remaining) = true
+has_every (_ ∷ remaining) = has_every remaining
+
+-- the words, those after the program's name, are a command line that can be run
+pub record IsCommandLine (words : List Text) : Type 0 where
+  pub settings : List Setting
+  pub given : GiveAll settings words
+  pub in_range : AllByRecursion IsInRange settings
+  -- no option is given twice
+  pub once : IsDistinct bytes_eq (map name_of settings)
+  -- `--live` is given with neither `--every` nor `--show`
+  pub no_conflict : (live_given settings && (has_every settings || show_given settings)) ≡ false

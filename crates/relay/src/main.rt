@@ -2,7 +2,9 @@
 //!
 //! - `flushes`: the program on writers whose flush fails, and on words that are not UTF-8.
 //! - `laws`: laws of the definitions: the options of command lines.
-//! - `lent`: a writer that is lent, about which contracts can state that it is still the same writer.
+//! - `lent`: a writer that is lent, about which contracts can state that it is still the same writer, and which
+//!   remembers whether its pipe is broken.
+//! - `live`: the program with `--live`: when it reads, writes and flushes, and how it ends.
 //! - `options`: the options of a command line.
 //! - `service`: the program on its words and streams.
 //! - `tests`: the program on readers and writers that give and take a few bytes at a time, and fail.
@@ -12,6 +14,8 @@
 mod flushes;
 mod laws;
 mod lent;
+#[cfg(test)]
+mod live;
 mod options;
 mod service;
 #[cfg(test)]

@@ -1,12 +1,14 @@
 //! The options of a command line.
-ghost use Rattle.std.specs.Prelude.{◌≡◌, ◌<◌, ◌≤◌, false, IfErr, IfOk, codes, map, option_and_then};
-ghost use Rattle.clap.specs.Words.{FailsBy, app_of, fault_of, first_value, found_of, matches_of, one_text, rows_of};
-ghost use Rattle.clap.specs.Words.{rule_of};
+ghost use Rattle.std.specs.Prelude.{◌≡◌, ◌<◌, ◌≤◌, ◌&&◌, ◌||◌, false, IfErr, IfOk, codes, map, option_and_then};
+ghost use Rattle.clap.specs.Words.{FailsBy, app_of, fault_of, first_value, found_of, matched_of, matches_of, one_text};
+ghost use Rattle.clap.specs.Words.{rows_of, rule_of};
 ghost use Rattle.clap.specs.declared.error.kind.ErrorKind.TheVariants.{InvalidValue};
 ghost use Rattle.relay.specs.CommandLine.{chosen, command_line, named, number_rule, flag_rule, faults_in, number_or};
-ghost use Rattle.relay.specs.CommandLine.{RefusesFor, asked_in, is_true, kind_in, profile_named, profile_read};
+ghost use Rattle.relay.specs.CommandLine.{RefusesFor, asked_in, is_of_words, is_true, kind_in, live_in};
+ghost use Rattle.relay.specs.CommandLine.{profile_named, profile_read};
 ghost use Rattle.relay.specs.CommandLine.{text_rule};
 
+use clap::parser::ValueSource;
 use clap::{Arg, ArgAction, ArgMatches, Command, Error, value_parser};
 use std::alloc::{AllocError, Global};
 use std::convert::AsStr;
@@ -25,6 +27,8 @@ pub struct Options {
     pub every: usize,
     /// Whether the rows are written once, at the end, in place of updates.
     pub is_show: bool,
+    /// Whether an update is written after each read that brings bytes, in place of those after `every` bytes.
+    pub is_live: bool,
     ghost width_in: { (0 < width) × (width ≤ 4096) },
     ghost height_in: { (0 < height) × (height ≤ 4096) },
     ghost every_in: { 0 < every },
@@ -37,6 +41,8 @@ pub enum BadWords<'a> {
     Command(Error),
     /// The terminal's name, which is no profile's.
     Terminal(&'a str),
+    /// `--live` is given with `--every` or `--show`.
+    Conflict,
 }
 
 const MOST: u32 = 4096;
@@ -135,12 +141,18 @@ fn command<'a>(alloc: Global) -> Result<Command<'a>, AllocError>
         "show",
         "Write the rows of the screen once, at the end of the input",
     );
+    let live = flag_option(
+        alloc,
+        "live",
+        "Write an update after each read, before the next one; not with --every or --show",
+    );
     named_command(alloc)?
         .arg(width)?
         .arg(height)?
         .arg(terminal)?
         .arg(every)?
-        .arg(show)
+        .arg(show)?
+        .arg(live)
 }
 
 // The number that was read, if it is from 1 to `most`, or else the default.
@@ -169,6 +181,26 @@ fn flag(matches: &ArgMatches<'_>, name: &str) -> bool
     ensures { result ≡ is_true (one_text (found_of matches.now) name.now) }
 {
     matches.get_one::<bool>(name).unwrap_or(false)
+}
+
+// Whether an option was given, so that its value is no default.
+fn is_given(matches: &ArgMatches<'_>, name: &str) -> bool
+    ensures { result ≡ is_of_words (option_and_then (λ a. a.source) (matched_of (found_of matches.now) name.now)) }
+{
+    match matches.value_source(name) {
+        Some(ValueSource::CommandLine) => true,
+        Some(ValueSource::DefaultValue) => false,
+        None => false,
+    }
+}
+
+// Whether `--live` was given with `--every` or `--show`.
+fn has_conflict(matches: &ArgMatches<'_>) -> bool
+    ensures { result ≡ (is_true (one_text (found_of matches.now) (codes "live"))
+        && (is_of_words (option_and_then (λ a. a.source) (matched_of (found_of matches.now) (codes "every")))
+        || is_true (one_text (found_of matches.now) (codes "show")))) }
+{
+    flag(matches, "live") && (is_given(matches, "every") || flag(matches, "show"))
 }
 
 // The profile of a name, if it is one.
@@ -215,21 +247,28 @@ pub fn read<'a, S: AsStr>(alloc: Global, words: &'a [S]) -> Result<Options, BadW
       profile = options.profile;
       every = options.every;
       is_show = options.is_show;
+      is_live = options.is_live;
     }) }
+    ensures live { IfOk result (λ options. live_in (map S.text words.entry.now) ≡ options.is_live) }
     ensures faults { RefusesFor (faults_in (map S.text words.entry.now)) result }
 {
     let matches = match matches_of(alloc, words) {
         Ok(matches) => matches,
         Err(error) => return Err(BadWords::Command(error)),
     };
-    match profile_in(&matches) {
-        Ok(profile) => Ok(Options {
-            width: number(&matches, "width", 80, MOST),
-            height: number(&matches, "height", 24, MOST),
-            profile,
-            every: number(&matches, "every", 4096, u32::MAX),
-            is_show: flag(&matches, "show"),
-        }),
-        Err(bad) => Err(bad),
+    let profile = match profile_in(&matches) {
+        Ok(profile) => profile,
+        Err(bad) => return Err(bad),
+    };
+    if has_conflict(&matches) {
+        return Err(BadWords::Conflict);
     }
+    Ok(Options {
+        width: number(&matches, "width", 80, MOST),
+        height: number(&matches, "height", 24, MOST),
+        profile,
+        every: number(&matches, "every", 4096, u32::MAX),
+        is_show: flag(&matches, "show"),
+        is_live: flag(&matches, "live"),
+    })
 }

@@ -1,12 +1,13 @@
 //! The program on its words and streams.
-ghost use Rattle.std.specs.Prelude.{false, ◌≡◌, ◌≢◌, ◌⊎◌, ◌↔◌, ◌||◌, ◌++◌, ◌≤◌, ◌^◌, [], codes, is_err, map};
+ghost use Rattle.std.specs.Prelude.{false, true, ℕ, ◌≡◌, ◌≢◌, ◌⊎◌, ◌↔◌, ◌||◌, ◌++◌, ◌≤◌, ◌^◌, [], codes, is_err, map};
 ghost use Rattle.std.specs.Prelude.{IfSome, IsErr, IsErrOf, IsTrue, OnOk, OnErr};
 ghost use Rattle.std.specs.Io.KnownBytes.{Appends, Keeps};
 ghost use Rattle.terminal.specs.Shown.{AppendsPrefix};
 ghost use Rattle.terminal.specs.Watched.{IsUnread};
 ghost use Rattle.clap.specs.Words.{IsAmong, kind_of};
-ghost use Rattle.relay.specs.CommandLine.{HasMistake, faults_in, kind_in};
+ghost use Rattle.relay.specs.CommandLine.{HasMistake, asked_in, faults_in, kind_in, live_in};
 ghost use Rattle.relay.specs.Faults.{IsReported, fault_line, fault_text};
+ghost use Rattle.relay.specs.Live.{EndsLive, EndsLiveOn, IsLive, RunsLive};
 ghost use Rattle.relay.specs.Output.{MemoryRunsOut, NumbersRunOut, asked_of, written, written_in};
 ghost use Rattle.relay.specs.Reports.{EndsWithFault, ReportsFault};
 
@@ -18,7 +19,9 @@ use clap::error::ErrorKind;
 use std::alloc::Global;
 use std::convert::AsStr;
 use std::io::{Read, Write};
-use terminal::{ProgramWidth, RunError, Terminal, TerminalError, Watched, run_on, show_on};
+use terminal::{
+    ProgramWidth, RunError, Terminal, TerminalError, Watched, run_live_on, run_on, show_on,
+};
 
 const FAULT: u8 = 1;
 
@@ -140,6 +143,7 @@ fn explain<T: Write, F: Write>(
     ensures quiet { result ≡ 0 → Keeps (F.contents faults.old.inner) (F.contents faults.new.inner) }
     ensures nothing { kind_of error.now ≡ ErrorKind.OutOfMemory
         → Keeps (T.contents writer.old.inner) (T.contents writer.new.inner) }
+    ensures unused { kind_of error.now ≡ ErrorKind.OutOfMemory → writer.new.has_failed ≡ false }
     ensures refused { result ≡ BAD_WORDS → Keeps (T.contents writer.old.inner) (T.contents writer.new.inner) }
     ensures written { kind_of error.now ≡ ErrorKind.OutOfMemory → AppendsPrefix (F.contents faults.old.inner)
         (F.contents faults.new.inner) (fault_line (codes "out of memory")) }
@@ -163,6 +167,14 @@ fn explain<T: Write, F: Write>(
     0
 }
 
+const CONFLICT: &str = "\
+error: the argument '--live' cannot be used with '--every <N>' or '--show'
+
+Usage: relay [OPTIONS]
+
+For more information, try '--help'.
+";
+
 // Writes why the words are refused to `faults`, or help or the version to `writer`.
 fn explain_words<T: Write, F: Write>(
     alloc: Global,
@@ -181,6 +193,7 @@ fn explain_words<T: Write, F: Write>(
     ensures quiet { result ≡ 0 → Keeps (F.contents faults.old.inner) (F.contents faults.new.inner) }
     ensures nothing { kind_in words.now ≡ ErrorKind.OutOfMemory
         → Keeps (T.contents writer.old.inner) (T.contents writer.new.inner) }
+    ensures unused { kind_in words.now ≡ ErrorKind.OutOfMemory → writer.new.has_failed ≡ false }
     ensures refused { result ≡ BAD_WORDS → Keeps (T.contents writer.old.inner) (T.contents writer.new.inner) }
     ensures written { kind_in words.now ≡ ErrorKind.OutOfMemory → AppendsPrefix (F.contents faults.old.inner)
         (F.contents faults.new.inner) (fault_line (codes "out of memory")) }
@@ -192,10 +205,11 @@ fn explain_words<T: Write, F: Write>(
     match words {
         BadWords::Command(error) => explain(alloc, error, writer, faults),
         BadWords::Terminal(name) => refuse_terminal(faults, name),
+        BadWords::Conflict => refuse(faults, CONFLICT),
     }
 }
 
-// Writes the output that the options ask for of the reader's input: the rows, or the updates.
+// Writes the output that the options ask for of the reader's input: the rows, or the updates, live or not.
 fn answer<R: Read, T: Write>(
     alloc: Global,
     options: Options,
@@ -204,21 +218,24 @@ fn answer<R: Read, T: Write>(
 ) -> Result<(), RunError>
     requires reader { IsUnread reader.old }
     requires writer { writer.old.has_failed ≡ false }
-    ensures ok { OnOk result
+    ensures ok { options.is_live ≡ false → OnOk result
         (IfSome (R.remaining reader.old.inner)
         (λ input. Appends (T.contents writer.old.inner) (T.contents writer.new.inner)
         (written (asked_of options) input))) }
-    ensures err { OnErr result
+    ensures err { options.is_live ≡ false → OnErr result
         (IfSome (R.remaining reader.old.inner)
         (λ input. AppendsPrefix (T.contents writer.old.inner) (T.contents writer.new.inner)
         (written (asked_of options) input))) }
+    ensures live { IsTrue options.is_live → RunsLive (asked_of options) (λ r. R.remaining r) (λ t. T.contents t) result
+        reader.old reader.new writer.old writer.new }
     ensures read { IsErrOf result RunError.Read ↔ IsTrue reader.new.has_failed }
     ensures write { IsErrOf result RunError.Write ↔ IsTrue writer.new.has_failed }
     ensures too_long { IsErrOf result RunError.TooLong → reader.new.reads ≡ 2 ^ 48 }
     ensures failed { IsErrOf result (RunError.Terminal TerminalError.Failed) → ⊥ }
-    ensures number { IsErrOf result (RunError.Terminal TerminalError.Number) → IfSome (R.remaining reader.old.inner)
-        (NumbersRunOut (asked_of options)) }
-    ensures memory { IsErrOf result (RunError.Terminal TerminalError.Memory) → IfSome (R.remaining reader.old.inner)
+    ensures number { options.is_live ≡ false → IsErrOf result (RunError.Terminal TerminalError.Number)
+        → IfSome (R.remaining reader.old.inner) (NumbersRunOut (asked_of options)) }
+    ensures memory { options.is_live ≡ false → IsErrOf result (RunError.Terminal TerminalError.Memory)
+        → IfSome (R.remaining reader.old.inner)
         (MemoryRunsOut (asked_of options) (R.remaining reader.new.inner)) }
     // After a fault of the reader or the writer the one that failed isn't called again.
     ensures ends_reads { reader.new.has_gone_on ≡ reader.old.has_gone_on }
@@ -230,16 +247,37 @@ fn answer<R: Read, T: Write>(
         profile,
         every,
         is_show,
+        is_live,
     } = options;
     let mut terminal = Terminal::with_profile(alloc, width, height, ProgramWidth, profile)?;
-    if is_show {
+    if is_live {
+        run_live_on(&mut terminal, reader, writer)
+    } else if is_show {
         show_on(&mut terminal, reader, writer)
     } else {
         run_on(&mut terminal, reader, writer, every)
     }
 }
 
-// Runs the command line, and reports a fault.
+// Reports the fault with which a run ended, and returns the status 1; but leaves one of the writer with `--live` to the
+// caller, and returns the status 0.
+fn report_end<F: Write>(error: RunError, is_live: bool, faults: &mut Watched<F>) -> u8
+    ensures most { result ≤ 1 }
+    ensures quiet { result ≡ 0 → Keeps (F.contents faults.old.inner) (F.contents faults.new.inner) }
+    ensures left { error ≡ RunError.Write → IsTrue is_live → result ≡ 0 }
+    ensures status { (error ≡ RunError.Write → is_live ≡ false) → result ≡ FAULT }
+    ensures reported { (error ≡ RunError.Write → is_live ≡ false)
+        → IsReported (λ f. F.contents f) faults.old faults.new (fault_line (fault_text error)) }
+    ensures written { (error ≡ RunError.Write → is_live ≡ false)
+        → AppendsPrefix (F.contents faults.old.inner) (F.contents faults.new.inner) (fault_line (fault_text error)) }
+{
+    match error {
+        RunError::Write if is_live => 0,
+        _ => report(faults, fault_of(error)),
+    }
+}
+
+// Runs the command line, and reports a fault, but for one of the writer with `--live`: then the status is 0.
 fn relay<S: AsStr, R: Read, T: Write, F: Write>(
     alloc: Global,
     words: &[S],
@@ -257,19 +295,23 @@ fn relay<S: AsStr, R: Read, T: Write, F: Write>(
     ensures quiet { result ≡ 0 → Keeps (F.contents faults.old.inner) (F.contents faults.new.inner) }
     ensures mistaken { result ≡ BAD_WORDS → HasMistake (faults_in (map S.text words.now)) }
     ensures refused { result ≡ BAD_WORDS → Keeps (T.contents writer.old.inner) (T.contents writer.new.inner) }
-    ensures shows { faults_in (map S.text words.now) ≡ [] → result ≡ 0
+    ensures shows { faults_in (map S.text words.now) ≡ [] → live_in (map S.text words.now) ≡ false → result ≡ 0
         → IfSome (R.remaining reader.old.inner) (λ input. Appends (T.contents writer.old.inner)
         (T.contents writer.new.inner) (written_in (map S.text words.now) input)) }
-    ensures part { faults_in (map S.text words.now) ≡ [] → result ≢ 0
+    ensures part { faults_in (map S.text words.now) ≡ [] → live_in (map S.text words.now) ≡ false → result ≢ 0
         → IfSome (R.remaining reader.old.inner) (λ input. AppendsPrefix (T.contents writer.old.inner)
         (T.contents writer.new.inner) (written_in (map S.text words.now) input)) }
     ensures read { IsTrue reader.new.has_failed → (result ≡ FAULT)
         × IsReported (λ f. F.contents f) faults.old faults.new (fault_line (codes "cannot read")) }
-    ensures write { IsTrue writer.new.has_failed → (result ≡ FAULT)
+    ensures write { (IsLive (map S.text words.now) → ⊥) → IsTrue writer.new.has_failed → (result ≡ FAULT)
         × IsReported (λ f. F.contents f) faults.old faults.new (fault_line (codes "cannot write")) }
-    ensures fault { faults_in (map S.text words.now) ≡ [] → result ≢ 0 → IfSome (R.remaining reader.old.inner)
+    ensures fault { faults_in (map S.text words.now) ≡ [] → live_in (map S.text words.now) ≡ false → result ≢ 0
+        → IfSome (R.remaining reader.old.inner)
         (ReportsFault (map S.text words.now) (R.remaining reader.new.inner) (F.contents faults.old.inner)
         (F.contents faults.new.inner)) }
+    ensures live { IsLive (map S.text words.now) → EndsLive (asked_in (map S.text words.now)) (λ r. R.remaining r)
+        (λ t. T.contents t) true result reader.old reader.new writer.old writer.new (F.contents faults.old.inner)
+        (F.contents faults.new.inner) }
 {
     let options = match options::read(alloc, words) {
         Ok(options) => options,
@@ -277,18 +319,36 @@ fn relay<S: AsStr, R: Read, T: Write, F: Write>(
     };
     match answer(alloc, options, reader, writer) {
         Ok(()) => 0,
-        Err(error) => report(faults, fault_of(error)),
+        Err(error) => report_end(error, options.is_live, faults),
     }
+}
+
+// Reports a fault of the writer that `relay` left to its caller, but for a broken pipe, and returns the status.
+fn conclude<F: Write>(status: u8, has_failed: bool, is_broken: bool, faults: &mut Watched<F>) -> u8
+    ensures kept { (status ≡ 0 → IsTrue has_failed → IsTrue is_broken)
+        → (result ≡ status) × (faults.new ≡ faults.old) }
+    ensures told { status ≡ 0 → IsTrue has_failed → is_broken ≡ false → (result ≡ FAULT)
+        × AppendsPrefix (F.contents faults.old.inner) (F.contents faults.new.inner)
+        (fault_line (codes "cannot write")) }
+    ensures other { status ≢ 0 → (result ≡ status) × (faults.new ≡ faults.old) }
+    ensures zero { result ≡ 0 → (status ≡ 0) × (faults.new ≡ faults.old) }
+    ensures most { (n : ℕ) → 1 ≤ n → status ≤ n → result ≤ n }
+{
+    if status == 0 && has_failed && !is_broken {
+        return report(faults, "cannot write");
+    }
+    status
 }
 
 /// The program on its words, of which the first is its name, and on its streams. The output that the words
 /// ask for is written to `writer`: the updates of the reader's input on a terminal of the profile `--terminal`, one
-/// after each `--every` bytes and one at the end, or with `--show` the rows of the screen at the end; or help, or the
-/// version.
+/// after each `--every` bytes and one at the end, or with `--live` one after each read that brings bytes, before the
+/// next read; or with `--show` the rows of the screen at the end; or help, or the version.
 ///
 /// It returns the status: 0; or 1 with one line on `faults`, where reading, writing, memory or numbers
 /// failed or the input was too long, and then a prefix of the output may have been written; or 2 with a
-/// text on `faults` for a bad command line, and then no output was written.
+/// text on `faults` for a bad command line, and then no output was written. With `--live` a broken pipe, which a
+/// writer reports by `BrokenPipe`, is no fault: the status is 0.
 #[tactic(auto, using(crate::proofs::OutputLemmas::lent_reports))]
 pub fn serve<S: AsStr, R: Read, T: Write, F: Write>(
     alloc: Global,
@@ -309,23 +369,41 @@ pub fn serve<S: AsStr, R: Read, T: Write, F: Write>(
     ensures mistaken { result ≡ BAD_WORDS → HasMistake (faults_in (map S.text words.now)) }
     // After a bad command line nothing was written.
     ensures refused { result ≡ BAD_WORDS → Keeps (T.contents writer.old) (T.contents writer.new) }
-    // A command line that can be run writes the updates of the input, or with `--show` the rows, on a screen of its
-    // size, where the status is 0, and else a prefix of them.
-    ensures shows { faults_in (map S.text words.now) ≡ [] → result ≡ 0 → IfSome (R.remaining reader.old) (λ input.
+    // A command line that can be run, without `--live`, writes the updates of the input, or with `--show` the rows, on
+    // a screen of its size, where the status is 0, and else a prefix of them.
+    ensures shows { faults_in (map S.text words.now) ≡ [] → live_in (map S.text words.now) ≡ false → result ≡ 0
+        → IfSome (R.remaining reader.old) (λ input.
         Appends (T.contents writer.old) (T.contents writer.new) (written_in (map S.text words.now) input)) }
-    ensures part { faults_in (map S.text words.now) ≡ [] → result ≢ 0 → IfSome (R.remaining reader.old) (λ input.
+    ensures part { faults_in (map S.text words.now) ≡ [] → live_in (map S.text words.now) ≡ false → result ≢ 0
+        → IfSome (R.remaining reader.old) (λ input.
         AppendsPrefix (T.contents writer.old) (T.contents writer.new) (written_in (map S.text words.now) input)) }
     // With another status `faults` gets the line of a fault with which such a run may end, or a prefix of the line.
-    ensures fault { faults_in (map S.text words.now) ≡ [] → result ≢ 0 → IfSome (R.remaining reader.old)
+    ensures fault { faults_in (map S.text words.now) ≡ [] → live_in (map S.text words.now) ≡ false → result ≢ 0
+        → IfSome (R.remaining reader.old)
         (EndsWithFault (map S.text words.now) (F.contents faults.old) (F.contents faults.new)) }
+    // With `--live` it writes the updates of the pieces that reads brought, or where a write fails, or the terminal
+    // refuses, all but a part of the last one; a fault has its status and its line, but for a broken pipe.
+    ensures live { IsLive (map S.text words.now) → EndsLiveOn (map S.text words.now) result (R.remaining reader.old)
+        (T.contents writer.old) (T.contents writer.new) (F.contents faults.old) (F.contents faults.new) }
 {
     let mut reader = Watched::new(reader);
-    let mut writer = Watched::new(Lent { inner: writer });
-    let mut faults = Watched::new(Lent { inner: faults });
+    let mut writer = Watched::new(Lent {
+        inner: writer,
+        is_broken: false,
+    });
+    let mut faults = Watched::new(Lent {
+        inner: faults,
+        is_broken: false,
+    });
     let status = relay(alloc, words, &mut reader, &mut writer, &mut faults);
-    let Lent { inner } = writer.into_inner();
+    let has_failed = writer.failed();
+    let Lent { inner, is_broken } = writer.into_inner();
     let _ = &*inner;
-    let Lent { inner } = faults.into_inner();
+    let status = conclude(status, has_failed, is_broken, &mut faults);
+    let Lent {
+        inner,
+        is_broken: _,
+    } = faults.into_inner();
     let _ = &*inner;
     status
 }

@@ -335,6 +335,14 @@ Usage: relay [OPTIONS]
 For more information, try '--help'.
 ";
 
+const LIVE_CONFLICT: &str = "\
+error: the argument '--live' cannot be used with '--every <N>' or '--show'
+
+Usage: relay [OPTIONS]
+
+For more information, try '--help'.
+";
+
 #[test]
 fn refuses_bad_command_lines(rt: HostRuntime) {
     assert_refused(&rt, &["relay", "--width", "0"], NO_WIDTH);
@@ -345,6 +353,10 @@ fn refuses_bad_command_lines(rt: HostRuntime) {
     assert_refused(&rt, &["relay", "--depth", "3"], UNKNOWN);
     assert_refused(&rt, &["relay", "--show", "--show"], TWICE);
     assert_refused(&rt, &["relay", "--terminal", "vt100"], NO_PROFILE);
+    assert_refused(&rt, &["relay", "--live", "--every", "4096"], LIVE_CONFLICT);
+    assert_refused(&rt, &["relay", "--show", "--live"], LIVE_CONFLICT);
+    let words = ["relay", "--live", "--show", "--terminal", "vt100"];
+    assert_refused(&rt, &words, NO_PROFILE);
 }
 
 pub(crate) const HELP: &str = "\
@@ -358,6 +370,7 @@ Options:
       --terminal <NAME>  The terminal of the application [possible values: plain, xterm] [default: plain]
       --every <N>        Bytes of input between two updates, 1 to 4294967295 [default: 4096]
       --show             Write the rows of the screen once, at the end of the input
+      --live             Write an update after each read, before the next one; not with --every or --show
   -h, --help             Print help
   -V, --version          Print version
 

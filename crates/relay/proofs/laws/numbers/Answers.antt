@@ -1,10 +1,10 @@
 use Rattle.std.proofs.Common.{refl}
 use Rattle.clap.proofs.OnLiterals.{clap_on_literals}
-use Rattle.relay.specs.CommandLine.{command_line, faults_in, is_true, number_or, profile_named, terminal_in, text_in}
+use Rattle.relay.specs.CommandLine.{command_line, faults_in, is_given, is_true, number_or, profile_named, terminal_in, text_in}
 use Rattle.relay.proofs.laws.numbers.Goals as goal
 
 pub returns-clause-taken : goal.returns-clause-taken
-unfolding clap_on_literals command_line faults_in terminal_in profile_named
+unfolding clap_on_literals command_line faults_in terminal_in profile_named text_in is_given is_true
 returns-clause-taken c = refl
 
 pub returns-clause-width : goal.returns-clause-width
@@ -22,3 +22,7 @@ returns-clause-every c = refl
 pub returns-clause-show : goal.returns-clause-show
 unfolding clap_on_literals command_line text_in is_true
 returns-clause-show c = refl
+
+pub returns-clause-live : goal.returns-clause-live
+unfolding clap_on_literals command_line text_in is_true
+returns-clause-live c = refl

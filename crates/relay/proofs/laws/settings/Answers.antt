@@ -1,4 +1,4 @@
-use Rattle.relay.proofs.SettingLemmas.{no_faults, options_given, width_is, height_is, profile_is, every_is, show_is}
+use Rattle.relay.proofs.SettingLemmas.{no_faults, options_given, width_is, height_is, profile_is, every_is, show_is, live_is}
 use Rattle.relay.proofs.laws.settings.Goals as goal
 
 pub returns-clause-taken : goal.returns-clause-taken
@@ -18,3 +18,6 @@ returns-clause-every c = every_is
 
 pub returns-clause-show : goal.returns-clause-show
 returns-clause-show c = show_is
+
+pub returns-clause-live : goal.returns-clause-live
+returns-clause-live c = live_is

@@ -1,7 +1,7 @@
 use Rattle.std.proofs.Common.{◌≡◌, ◌∙◌, ap₂, codes}
 use Rattle.std.proofs.lemmas.Result.{IfOk-weaker}
 use Rattle.clap.specs.Words.{App, app_of, with_rule}
-use Rattle.relay.specs.CommandLine.{command_line, named, number_rule, text_rule}
+use Rattle.relay.specs.CommandLine.{command_line, flag_rule, named, number_rule, text_rule}
 use Rattle.relay.proofs.options.command.Goals as goal
 
 abbrev with_width : App
@@ -16,6 +16,9 @@ with_terminal = with_rule with_height (text_rule (codes "terminal") (codes "plai
 abbrev with_every : App
 with_every = with_rule with_terminal (number_rule (codes "every") (codes "4096") 4294967295)
 
+abbrev with_show : App
+with_show = with_rule with_every (flag_rule (codes "show"))
+
 pub returns : goal.returns
 unfolding command_line
 returns c =
@@ -27,5 +30,7 @@ returns c =
     c.in_ok-arg-3.ensures.shape c.text_option-terminal.ensures.local ∙ ap₂ with_rule height c.text_option-terminal.ensures.rule in
     let every : app_of c.in_ok-arg-4.field-0 ≡ with_every =
     c.in_ok-arg-4.ensures.shape c.number_option-every.ensures.local ∙ ap₂ with_rule terminal c.number_option-every.ensures.rule in
-    IfOk-weaker c.arg-5.result _ _
-    (λ r added. added.shape c.flag_option-show.ensures.local ∙ ap₂ with_rule every c.flag_option-show.ensures.rule) c.arg-5.ensures
+    let show : app_of c.in_ok-arg-5.field-0 ≡ with_show =
+    c.in_ok-arg-5.ensures.shape c.flag_option-show.ensures.local ∙ ap₂ with_rule every c.flag_option-show.ensures.rule in
+    IfOk-weaker c.arg-6.result _ _
+    (λ r added. added.shape c.flag_option-live.ensures.local ∙ ap₂ with_rule show c.flag_option-live.ensures.rule) c.arg-6.ensures
