@@ -1,3 +1,4 @@
+mod AnsiLemmas
 pub mod ContentLemmas
 pub mod EscapeLemmas
 pub mod JsonLemmas

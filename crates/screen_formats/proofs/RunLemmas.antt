@@ -1,7 +1,7 @@
 -- Runs that are made cell by cell are those of the groups.
 use Rattle.std.proofs.Common.{◌≡◌, ℕ, ◌+◌, Bool, true, false, List, [], ◌∷◌, ◌++◌, map, refl, sym, ap, ◌∙◌, arith}
 use Rattle.std.specs.List.{AllByRecursion}
-use Rattle.std.specs.Prelude.{◌==◌, not, sum_by, flat_map, fold, if◌then◌else◌}
+use Rattle.std.specs.Prelude.{◌==◌, not, sum_by, filter, flat_map, fold, if◌then◌else◌}
 use Rattle.std.proofs.lemmas.Bool.{and_parts, eqb-true}
 use Rattle.std.proofs.lemmas.List.{append-nil}
 use Rattle.std.proofs.lemmas.List.Sums.{sum_by-append}
@@ -46,6 +46,15 @@ runs_made groups (v ∷ cells) cut =
 
 pub runs_are_made : (cells : List VisibleCell) → fold with_cell [] cells ≡ runs_of cells
 runs_are_made cells = runs_made [] cells tt
+
+-- the runs after a cell that may not be wanted
+pub wanted_next : (test : VisibleCell → Bool) (runs next : List Run) (v : VisibleCell) (cells : List VisibleCell)
+    → next ≡ (if test v then with_cell runs v else runs) → fold with_cell next (filter test cells) ≡ fold with_cell runs (filter test (v ∷ cells))
+wanted_next test runs next v cells is = by_test (test v) refl
+  where
+    by_test : (b : Bool) → test v ≡ b → fold with_cell next (filter test cells) ≡ fold with_cell runs (filter test (v ∷ cells))
+    by_test true e = rw e (ap (λ rs. fold with_cell rs (filter test cells)) (is ∙ ap (λ b. if b then with_cell runs v else runs) e))
+    by_test false e = rw e (ap (λ rs. fold with_cell rs (filter test cells)) (is ∙ ap (λ b. if b then with_cell runs v else runs) e))
 
 -- a cell changes only the last run
 pub with_cell_last : (runs : List Run) (last : Run) (v : VisibleCell) → with_cell (runs ++ last ∷ []) v ≡ runs ++ with_cell (last ∷ []) v

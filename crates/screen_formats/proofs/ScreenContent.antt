@@ -12,7 +12,7 @@ use Rattle.cell_edits.specs.VisibleCells.{visible_cells}
 use Rattle.screen_formats.specs.Colors.{default_background, default_foreground, has_background, hex_color, background_color}
 use Rattle.screen_formats.specs.Content.{AreTagged, content, html_content, is_end, token_content, tokens_content, row_content, svg_content}
 use Rattle.screen_formats.specs.Escape.{held_text}
-use Rattle.screen_formats.specs.Html.{html_tokens, html_row, html_rows, html_run, html_text}
+use Rattle.screen_formats.specs.Html.{cursor_style, html_cursor, html_tokens, html_row, html_rows, html_run, html_text}
 use Rattle.screen_formats.specs.Links.{link_uri}
 use Rattle.screen_formats.specs.Tokens.{Token, Opening, Closing, Words, element}
 use Rattle.screen_formats.specs.Runs.{Run, runs_of}
@@ -50,6 +50,10 @@ line_feed Xml = ((tt, tt), refl)
 closing : (markup : Markup) (name : List ℕ) → list_any is_end name ≡ false → Holds markup (Closing name ∷ Words (10 ∷ []) ∷ []) (10 ∷ [])
 closing markup name named = ((named, (line_feed markup).0), (line_feed markup).1)
 
+either : (markup : Markup) (b : Bool) (xs ys : List Token) (text : List ℕ) → Holds markup xs text → Holds markup ys text → Holds markup (if b then xs else ys) text
+either markup true xs ys text p q = p
+either markup false xs ys text p q = q
+
 -- ---- HTML
 
 name_of : (b : Bool) → list_any is_end (if b then codes "span" else codes "a") ≡ false
@@ -67,10 +71,20 @@ html_row_holds row =
     let runs = runs_of (visible_cells row) in
     holds_both Html (flat_map html_run runs) (Words (10 ∷ []) ∷ []) (row_content Html row) (10 ∷ []) (holds_each Html html_run (λ run. held_text Html run.text) run_holds runs) (line_feed Html)
 
+box_holds : (style : List ℕ) → Holds Html (element (codes "span") ((codes "class", codes "cursor") ∷ (codes "style", style) ∷ []) []) []
+unfolding chars
+box_holds style = (((refl, (refl, (refl, tt))), (tt, (refl, tt))), refl)
+
+html_cursor_holds : (screen : Screen) → Holds Html (html_cursor screen) []
+unfolding html_cursor
+html_cursor_holds screen = either Html screen.visible _ [] [] (box_holds (cursor_style (min screen.column (screen.width - 1)) screen.row)) (tt, refl)
+
 html_holds : (screen : Screen) → Holds Html (html_tokens screen) (html_content screen)
 html_holds screen =
+    let closed = Closing (codes "pre") ∷ Words (10 ∷ []) ∷ [] in
     let rows = holds_each Html html_row (λ row. row_content Html row ++ 10 ∷ []) html_row_holds screen.rows in
-    let all = holds_both Html (html_rows screen.rows) (Closing (codes "pre") ∷ Words (10 ∷ []) ∷ []) (flat_map (λ row. row_content Html row ++ 10 ∷ []) screen.rows) (10 ∷ []) rows (closing Html (codes "pre") refl) in
+    let back = holds_both Html (html_cursor screen) closed [] (10 ∷ []) (html_cursor_holds screen) (closing Html (codes "pre") refl) in
+    let all = holds_both Html (html_rows screen.rows) (html_cursor screen ++ closed) (flat_map (λ row. row_content Html row ++ 10 ∷ []) screen.rows) (10 ∷ []) rows back in
     (((refl, (refl, (refl, tt))), all.0), all.1)
 
 pub html_read : (screen : Screen) → content (html_text screen) ≡ Some (html_content screen)
@@ -86,10 +100,6 @@ letters_hold : (row : ℕ) (run : Run) → Holds Xml (svg_letters row run) (held
 unfolding placed_text
 letters_hold row run = (((refl, (refl, (refl, (refl, (refl, (refl, (refl, tt))))))), (tt, (refl, tt))), append-nil (held_text Xml run.text))
 
-either : (b : Bool) (xs ys : List Token) (text : List ℕ) → Holds Xml xs text → Holds Xml ys text → Holds Xml (if b then xs else ys) text
-either true xs ys text p q = p
-either false xs ys text p q = q
-
 in_link : (uri : Text) (tokens : List Token) (text : List ℕ) → Holds Xml tokens text → Holds Xml (Opening (codes "a") ((codes "href", uri) ∷ []) ∷ (tokens ++ Closing (codes "a") ∷ [])) text
 in_link uri tokens text p =
     let all = holds_both Xml tokens (Closing (codes "a") ∷ []) text [] p ((refl, tt), refl) in
@@ -99,12 +109,12 @@ text_holds : (row : ℕ) (run : Run) → Holds Xml (svg_text_of row run) (held_t
 unfolding svg_text_of
 text_holds row run =
     let uri = link_uri run.attributes in
-    either (length uri == 0) (svg_letters row run) _ (held_text Xml run.text) (letters_hold row run) (in_link uri (svg_letters row run) (held_text Xml run.text) (letters_hold row run))
+    either Xml (length uri == 0) (svg_letters row run) _ (held_text Xml run.text) (letters_hold row run) (in_link uri (svg_letters row run) (held_text Xml run.text) (letters_hold row run))
 
 paper_holds : (row : ℕ) (run : Run) → Holds Xml (svg_background row run) []
 unfolding svg_background
 paper_holds row run =
-    either (has_background run.attributes) _ [] [] (rectangle_holds (column_units run.column) (row_units row) (column_units run.columns) (codes "18") (hex_color (background_color run.attributes)) []) (tt, refl)
+    either Xml (has_background run.attributes) _ [] [] (rectangle_holds (column_units run.column) (row_units row) (column_units run.columns) (codes "18") (hex_color (background_color run.attributes)) []) (tt, refl)
 
 svg_row_holds : (at : ℕ) (row : Row) → Holds Xml (svg_row at row) (row_content Xml row)
 unfolding svg_row
@@ -118,7 +128,7 @@ svg_rows_hold at (row ∷ rows) = holds_both Xml (svg_row at row) (svg_rows (at 
 
 cursor_holds : (screen : Screen) → Holds Xml (svg_cursor screen) []
 unfolding svg_cursor
-cursor_holds screen = either screen.visible _ [] [] (rectangle_holds (column_units (min screen.column (screen.width - 1))) (row_units screen.row) (codes "10") (codes "18") (hex_color default_foreground) (codes "0.5")) (tt, refl)
+cursor_holds screen = either Xml screen.visible _ [] [] (rectangle_holds (column_units (min screen.column (screen.width - 1))) (row_units screen.row) (codes "10") (codes "18") (hex_color default_foreground) (codes "0.5")) (tt, refl)
 
 opening_holds : (width height : Text) → Holds Xml (svg_opening width height) []
 unfolding svg_opening sized_opening

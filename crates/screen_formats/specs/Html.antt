@@ -1,5 +1,6 @@
 -- A screen as HTML.
-use Rattle.std.specs.Prelude.{Bool, ℕ, ◌==◌, ◌||◌, not, List, [], ◌∷◌, ◌++◌, codes, decimal, length, if◌then◌else◌}
+use Rattle.std.specs.Prelude.{Bool, ℕ, ◌-◌, ◌==◌, ◌||◌, not, List, [], ◌∷◌, ◌++◌, codes, decimal, length, min}
+use Rattle.std.specs.Prelude.{if◌then◌else◌}
 use Rattle.std.specs.List.{flat_map, list_all}
 use Rattle.text_clusters.specs.Plain.{is_printable}
 use Rattle.cell_base.specs.Attributes.{Attributes}
@@ -56,15 +57,31 @@ html_row row = flat_map html_run (runs_of (visible_cells row)) ++ Words (10 ∷ 
 abbrev pub html_rows : List Row → List Token
 html_rows rows = flat_map html_row rows
 
+-- rows are 1.25 times as high as the letters, and the cursor lies over them
 unfoldable pub screen_style : List ℕ
 screen_style =
     color_style (codes "color") (hex_color default_foreground)
-    ++ (color_style (codes "background-color") (hex_color default_background) ++ codes "line-height:1.25;")
+    ++ (color_style (codes "background-color") (hex_color default_background)
+    ++ codes "line-height:1.25;position:relative;")
+
+-- a box over the cell of a column and a row, in the color of the text
+unfoldable pub cursor_style : ℕ → ℕ → List ℕ
+cursor_style column row =
+    codes "position:absolute;left:" ++ (decimal column ++ (codes "ch;top:calc(1.25em*" ++ (decimal row
+    ++ (codes ");width:1ch;height:1.25em;opacity:0.5;"
+    ++ color_style (codes "background-color") (hex_color default_foreground)))))
+
+-- the cursor, if it is shown; in the last column where a wrap is pending
+unfoldable pub html_cursor : Screen → List Token
+html_cursor screen =
+    if screen.visible
+    then element (codes "span") ((codes "class", codes "cursor")
+    ∷ (codes "style", cursor_style (min screen.column (screen.width - 1)) screen.row) ∷ []) [] else []
 
 abbrev pub html_tokens : Screen → List Token
 html_tokens screen =
-    Opening (codes "pre") ((codes "class", codes "screen") ∷ (codes "style", screen_style) ∷ []) ∷ html_rows screen.rows
-    ++ Closing (codes "pre") ∷ Words (10 ∷ []) ∷ []
+    Opening (codes "pre") ((codes "class", codes "screen") ∷ (codes "style", screen_style) ∷ [])
+    ∷ (html_rows screen.rows ++ (html_cursor screen ++ Closing (codes "pre") ∷ Words (10 ∷ []) ∷ []))
 
 abbrev pub html_text : Screen → List ℕ
 html_text screen = tokens_text Html (html_tokens screen)

@@ -1,9 +1,11 @@
 -- Runs: neighbouring visible cells that look alike.
-use Rattle.std.specs.Prelude.{◌≡◌, ℕ, Bool, not, ◌&&◌, ◌==◌, List, [], ◌∷◌, map, sum_by}
+use Rattle.std.specs.Prelude.{◌≡◌, ℕ, ◌+◌, Bool, not, ◌&&◌, ◌==◌, List, [], ◌∷◌, map, nat_le, nat_lt, sum_by}
 use Rattle.cell_base.specs.Attributes.{Attributes, plain}
 use Rattle.cell_base.specs.SameAttributes.{same_attributes}
 use Rattle.cell_edits.specs.VisibleCells.{VisibleCell, first_column, texts_joined}
 use Rattle.cell_views.specs.Groups.{groups_by}
+use Rattle.screen_formats.specs.declared.runs.Part.{Part}
+use Rattle.screen_formats.specs.declared.runs.Part.TheVariants.{After, At, Before}
 
 -- the attributes and the width in columns of each cell, the first column, how many columns the cells take, and their
 -- texts, joined
@@ -44,6 +46,12 @@ begins_run cells v = not (goes_on (run_of cells) v)
 pub record RendersAs (run : Run) (v : VisibleCell) : Type 0 where
   pub attributes : v.cell.attributes ≡ run.attributes
   pub width : v.cell.width ≡ run.width
+
+-- whether a cell is before, at or after a column
+abbrev pub is_in : Part → VisibleCell → Bool
+is_in (Before column) v = nat_le (v.column + v.cell.width) column
+is_in (At column) v = nat_le v.column column && nat_lt column (v.column + v.cell.width)
+is_in (After column) v = nat_lt column v.column
 
 -- the runs of cells, in order
 abbrev pub runs_of : List VisibleCell → List Run

@@ -3,15 +3,16 @@ ghost use Rattle.std.specs.Prelude.{◌≡◌, ◌++◌, map, IfOk, OnOk};
 ghost use Rattle.std.specs.String.{string_bytes};
 ghost use Rattle.std.specs.List.{flat_map};
 ghost use Rattle.cell_surface.specs.Surface.{shown_by};
-ghost use Rattle.screen_formats.specs.Ansi.{ansi_row, ansi_run, ansi_text, color_code, color_codes, rendition_codes};
-ghost use Rattle.screen_formats.specs.Ansi.{linked_text, printable_uri, underline_color_code};
+ghost use Rattle.screen_formats.specs.Ansi.{ansi_cursor_row, ansi_row, ansi_row_at, ansi_rows, ansi_run, ansi_text};
+ghost use Rattle.screen_formats.specs.Ansi.{ansi_under, ansi_words, color_code, color_codes, cursor_in, linked_text};
+ghost use Rattle.screen_formats.specs.Ansi.{printable_uri, rendition_codes, reversed, underline_color_code};
 
 use crate::links::link_uri;
 use crate::renditions::{
     align_rendition, blink_rendition, intensity_rendition, text_if, underline_rendition,
 };
-use crate::runs::{Run, line_runs};
-use cell_base::{CellAttributes, ColorAttribute, Widths};
+use crate::runs::{Part, Run, line_runs, part_runs};
+use cell_base::{CellAttributes, ColorAttribute, CursorVisibility, Widths};
 use cell_line::Line;
 use cell_surface::Surface;
 use std::alloc::{AllocError, Global};
@@ -113,15 +114,58 @@ fn push_text(out: &mut String, uri: &str, text: &str) -> Result<(), AllocError>
     Ok(())
 }
 
-// Writes a run: SGR with a reset and its attributes, and its text.
-#[tactic(auto, unfolding(crate::specs::Ansi::ansi_run))]
-fn push_run(alloc: Global, out: &mut String, run: &Run<'_>) -> Result<(), AllocError>
-    ensures { OnOk result (string_bytes out.new ≡ string_bytes out.old ++ ansi_run run.now) }
+// Writes SGR with a reset and attributes, and a text.
+#[tactic(auto, unfolding(crate::specs::Ansi::ansi_words))]
+fn push_words(
+    alloc: Global,
+    out: &mut String,
+    attrs: &CellAttributes,
+    text: &str,
+) -> Result<(), AllocError>
+    ensures { OnOk result (string_bytes out.new ≡ string_bytes out.old ++ ansi_words attrs.now text.now) }
 {
-    let renditions = rendition_codes(alloc, run.attrs)?;
-    let colors = color_codes(alloc, run.attrs)?;
+    let renditions = rendition_codes(alloc, attrs)?;
+    let colors = color_codes(alloc, attrs)?;
     write!(out, "\x1b[0{renditions}{colors}m")?;
-    push_text(out, printable_uri(link_uri(run.attrs)), &run.text)?;
+    push_text(out, printable_uri(link_uri(attrs)), text)?;
+    Ok(())
+}
+
+// Writes runs.
+fn push_runs(alloc: Global, out: &mut String, runs: &[Run<'_>]) -> Result<(), AllocError>
+    ensures { OnOk result (string_bytes out.new ≡ string_bytes out.old ++ flat_map ansi_run runs.now) }
+{
+    for run in runs {
+        push_words(alloc, out, run.attrs, &run.text)?;
+    }
+    Ok(())
+}
+
+// Attributes with foreground and background exchanged, or back where they are.
+fn reversed(attrs: &CellAttributes) -> Result<CellAttributes, AllocError>
+    ensures { IfOk result (λ made. made ≡ reversed attrs.now) }
+{
+    let mut made = attrs.try_clone()?;
+    made.set_reverse(!attrs.reverse());
+    Ok(made)
+}
+
+// Writes a run under the cursor.
+fn push_under(alloc: Global, out: &mut String, run: &Run<'_>) -> Result<(), AllocError>
+    ensures { OnOk result (string_bytes out.new ≡ string_bytes out.old ++ ansi_under run.now) }
+{
+    let attrs = reversed(run.attrs)?;
+    push_words(alloc, out, &attrs, &run.text)?;
+    Ok(())
+}
+
+// Writes the runs under the cursor.
+fn push_all_under(alloc: Global, out: &mut String, runs: &[Run<'_>]) -> Result<(), AllocError>
+    ensures { OnOk result (string_bytes out.new ≡ string_bytes out.old ++ flat_map ansi_under runs.now) }
+{
+    for run in runs {
+        push_under(alloc, out, run)?;
+    }
     Ok(())
 }
 
@@ -131,27 +175,82 @@ fn push_row(alloc: Global, out: &mut String, line: &Line) -> Result<(), AllocErr
     ensures { OnOk result (string_bytes out.new ≡ string_bytes out.old ++ ansi_row line.now.columns) }
 {
     let runs = line_runs(alloc, line)?;
-    for run in &runs {
-        push_run(alloc, out, run)?;
-    }
+    push_runs(alloc, out, &runs)?;
     out.push_str("\x1b[0m\n")?;
     Ok(())
 }
 
-// Writes lines.
-fn push_rows(alloc: Global, out: &mut String, lines: &[Line]) -> Result<(), AllocError>
+// Writes the runs of a line with the cursor in a column, SGR 0 and a line feed.
+#[tactic(auto, unfolding(crate::specs::Ansi::ansi_cursor_row))]
+fn push_cursor_row(
+    alloc: Global,
+    out: &mut String,
+    column: usize,
+    line: &Line,
+) -> Result<(), AllocError>
     ensures { OnOk result
-        (string_bytes out.new ≡ string_bytes out.old ++ flat_map ansi_row (map (λ line. line.columns) lines.now)) }
+        (string_bytes out.new ≡ string_bytes out.old ++ ansi_cursor_row column line.now.columns) }
 {
-    for line in lines {
-        push_row(alloc, out, line)?;
+    let before = part_runs(alloc, line, Part::Before(column))?;
+    let under = part_runs(alloc, line, Part::At(column))?;
+    let after = part_runs(alloc, line, Part::After(column))?;
+    push_runs(alloc, out, &before)?;
+    push_all_under(alloc, out, &under)?;
+    push_runs(alloc, out, &after)?;
+    out.push_str("\x1b[0m\n")?;
+    Ok(())
+}
+
+// Writes a line, where the cursor may be in a column.
+fn push_row_at(
+    alloc: Global,
+    out: &mut String,
+    cursor: Option<usize>,
+    line: &Line,
+) -> Result<(), AllocError>
+    ensures { OnOk result
+        (string_bytes out.new ≡ string_bytes out.old ++ ansi_row_at cursor line.now.columns) }
+{
+    match cursor {
+        Some(column) => push_cursor_row(alloc, out, column, line),
+        None => push_row(alloc, out, line),
+    }
+}
+
+// The column of the cursor, where it is shown in this row.
+fn cursor_in<W: Widths + Drop>(surface: &Surface<W>, at: usize) -> Option<usize>
+    ensures { result ≡ cursor_in (shown_by surface.now).screen at }
+{
+    let (column, row) = surface.cursor_position();
+    let (width, _) = surface.dimensions();
+    if surface.cursor_visibility() == CursorVisibility::Visible && row == at {
+        Some(column.min(width.saturating_sub(1)))
+    } else {
+        None
+    }
+}
+
+// Writes the lines of a screen.
+fn push_rows<W: Widths + Drop>(
+    alloc: Global,
+    out: &mut String,
+    surface: &Surface<W>,
+    lines: &[Line],
+) -> Result<(), AllocError>
+    ensures { OnOk result
+        (string_bytes out.new ≡ string_bytes out.old
+        ++ ansi_rows (shown_by surface.now).screen 0 (map (λ line. line.columns) lines.now)) }
+{
+    for row in 0..lines.len() {
+        push_row_at(alloc, out, cursor_in(surface, row), &lines[row])?;
     }
     Ok(())
 }
 
 /// Writes the rows of a screen as a text that a terminal shows: each run after SGR (ECMA-48 8.3.117) for its
 /// attributes, and in a link (OSC 8) where it has one whose scheme is http, https, mailto or file and whose URI is
-/// printable ASCII; after each row SGR 0 and a line feed.
+/// printable ASCII; after each row SGR 0 and a line feed. In the cell of the cursor, if it is shown, foreground and
+/// background are exchanged, once more where reverse video exchanges them.
 ///
 /// Of a surface that has failed the contract says only that its cells are written.
 pub fn write_ansi<W: Widths + Drop>(
@@ -161,6 +260,6 @@ pub fn write_ansi<W: Widths + Drop>(
 ) -> Result<(), AllocError>
     ensures { OnOk result (string_bytes out.new ≡ string_bytes out.old ++ ansi_text (shown_by surface.now).screen) }
 {
-    push_rows(alloc, out, surface.screen_lines())?;
+    push_rows(alloc, out, surface, surface.screen_lines())?;
     Ok(())
 }

@@ -1,8 +1,9 @@
 //! A screen as HTML.
-ghost use Rattle.std.specs.Prelude.{◌≡◌, ◌++◌, map, IfOk, OnOk};
+ghost use Rattle.std.specs.Prelude.{◌≡◌, ◌++◌, ◌-◌, [], ◌∷◌, codes, map, min, IfOk, OnOk};
 ghost use Rattle.std.specs.String.{string_bytes};
 ghost use Rattle.cell_surface.specs.Surface.{shown_by};
-ghost use Rattle.screen_formats.specs.Html.{background_style, html_element, html_name, html_row, html_rows, html_run};
+ghost use Rattle.screen_formats.specs.Html.{background_style, cursor_style, html_cursor, html_element, html_name};
+ghost use Rattle.screen_formats.specs.Html.{html_row, html_rows, html_run};
 ghost use Rattle.screen_formats.specs.Html.{html_style, html_text, text_style, is_boxed, screen_style, width_style};
 ghost use Rattle.screen_formats.specs.Tokens.{tokens_text};
 ghost use Rattle.screen_formats.specs.declared.escape.Markup.TheVariants.{Html};
@@ -15,7 +16,7 @@ use crate::links::link_uri;
 use crate::renditions::{color_style, rendition_style, rendition_words};
 use crate::runs::{Run, line_runs};
 use crate::tokens::{push_closing, push_element, push_opening, push_words};
-use cell_base::{CellAttributes, Widths};
+use cell_base::{CellAttributes, CursorVisibility, Widths};
 use cell_line::Line;
 use cell_surface::Surface;
 use std::alloc::{AllocError, Global};
@@ -149,15 +150,53 @@ fn screen_style(alloc: Global) -> Result<String, AllocError>
 {
     let color = color_style(alloc, "color", DEFAULT_FOREGROUND)?;
     let background = color_style(alloc, "background-color", DEFAULT_BACKGROUND)?;
-    let style = format!(in alloc; "{color}{background}line-height:1.25;")?;
+    let style = format!(in alloc; "{color}{background}line-height:1.25;position:relative;")?;
     Ok(style)
+}
+
+// The style of a box over a cell, as declarations of CSS.
+#[tactic(auto, unfolding(crate::specs::Html::cursor_style))]
+fn cursor_style(alloc: Global, column: usize, row: usize) -> Result<String, AllocError>
+    ensures { IfOk result (λ style. string_bytes style ≡ cursor_style column row) }
+{
+    let color = color_style(alloc, "background-color", DEFAULT_FOREGROUND)?;
+    let style = format!(in alloc;
+        "position:absolute;left:{column}ch;top:calc(1.25em*{row});width:1ch;height:1.25em;opacity:0.5;{color}"
+    )?;
+    Ok(style)
+}
+
+// Writes the cursor, if it is shown.
+#[tactic(auto, unfolding(crate::specs::Html::html_cursor))]
+fn push_cursor<W: Widths + Drop>(
+    alloc: Global,
+    out: &mut String,
+    surface: &Surface<W>,
+) -> Result<(), AllocError>
+    ensures { OnOk result
+        (string_bytes out.new ≡ string_bytes out.old ++ tokens_text Html (html_cursor (shown_by surface.now).screen)) }
+{
+    if surface.cursor_visibility() == CursorVisibility::Hidden {
+        return Ok(());
+    }
+    let (column, row) = surface.cursor_position();
+    let (width, _) = surface.dimensions();
+    let style = cursor_style(alloc, column.min(width.saturating_sub(1)), row)?;
+    push_element(
+        out,
+        Markup::Html,
+        "span",
+        &[("class", "cursor"), ("style", &style)],
+        "",
+    )?;
+    Ok(())
 }
 
 /// Writes a screen as HTML: an element `pre` of class `screen`, in which each row has a line feed after it. A run is a
 /// `span`, or an `a` where it has a link of the scheme http, https, mailto or file. Its class has the words of
 /// `rendition_words`, and its style draws all attributes except blinking, superscript and subscript. Cells that a font
 /// may draw wider or narrower, and those with a background, are boxes with the width of their columns, as high as the
-/// row.
+/// row. The cursor, if it is shown, is an empty `span` of class `cursor` that lies over its cell.
 ///
 /// Of a surface that has failed the contract says only that its cells are written.
 pub fn write_html<W: Widths + Drop>(
@@ -175,6 +214,7 @@ pub fn write_html<W: Widths + Drop>(
         &[("class", "screen"), ("style", &style)],
     )?;
     push_rows(alloc, out, surface.screen_lines())?;
+    push_cursor(alloc, out, surface)?;
     push_closing(out, Markup::Html, "pre")?;
     push_words(out, Markup::Html, "\n")?;
     Ok(())

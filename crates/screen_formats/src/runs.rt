@@ -1,8 +1,8 @@
 //! A line as runs: neighbouring cells that look alike.
-ghost use Rattle.std.specs.Prelude.{◌≡◌, [], ◌∷◌, ◌++◌, IfOk, OnOk};
+ghost use Rattle.std.specs.Prelude.{◌≡◌, [], ◌∷◌, ◌++◌, filter, IfOk, OnOk, if◌then◌else◌};
 ghost use Rattle.cell_edits.specs.VisibleCells.{visible_cells};
 ghost use Rattle.cell_views.specs.CellRefView.{shown_by};
-ghost use Rattle.screen_formats.specs.Runs.{goes_on, run_of, runs_of};
+ghost use Rattle.screen_formats.specs.Runs.{goes_on, is_in, run_of, runs_of};
 ghost use Rattle.screen_formats.specs.RunSteps.{grown, with_cell};
 
 use cell_base::CellAttributes;
@@ -100,6 +100,53 @@ fn push_cell<'a>(
         None => runs.push(Run::of_cell(alloc, cell)?)?,
     }
     Ok(())
+}
+
+/// Cells before, at or after a column.
+#[derive(Clone, Copy, Debug)]
+pub(crate) enum Part {
+    Before(usize),
+    At(usize),
+    After(usize),
+}
+
+fn is_in(part: Part, cell: &CellRef<'_>) -> bool
+    ensures { result ≡ is_in part (shown_by cell.now) }
+{
+    let first = cell.cell_index();
+    let end = first as u128 + cell.width() as u128;
+    match part {
+        Part::Before(column) => end <= column as u128,
+        Part::At(column) => first <= column && (column as u128) < end,
+        Part::After(column) => column < first,
+    }
+}
+
+// The cell joins the last run, or begins one, if it is wanted.
+fn push_if<'a>(
+    alloc: Global,
+    runs: &mut Vec<Run<'a>>,
+    cell: &CellRef<'a>,
+    is_wanted: bool,
+) -> Result<(), AllocError>
+    ensures { OnOk result
+        (runs.new.items ≡ (if is_wanted then with_cell runs.old.items (shown_by cell.now) else runs.old.items)) }
+{
+    if is_wanted {
+        push_cell(alloc, runs, cell)?;
+    }
+    Ok(())
+}
+
+/// The runs of the cells of a line that are before, at or after a column, each as long as possible, in order.
+pub(crate) fn part_runs(alloc: Global, line: &Line, part: Part) -> Result<Vec<Run<'_>>, AllocError>
+    ensures { IfOk result (λ runs. runs.items ≡ runs_of (filter (is_in part) (visible_cells line.now.columns))) }
+{
+    let mut runs = Vec::new(alloc);
+    for cell in line.visible_cells() {
+        push_if(alloc, &mut runs, &cell, is_in(part, &cell))?;
+    }
+    Ok(runs)
 }
 
 /// The runs of a line, each as long as possible, in order. Takes memory in proportion to the line.

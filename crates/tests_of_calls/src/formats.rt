@@ -2,9 +2,10 @@
 ghost use Rattle.cell_base.specs.ScreenSize.{IsScreenSize};
 
 use cell_base::{
-    AnsiColor, Blink, CellAttributes, Hyperlink, Intensity, ProgramWidth, Underline, VerticalAlign,
+    AnsiColor, Blink, CellAttributes, CursorVisibility, Hyperlink, Intensity, ProgramWidth,
+    Underline, VerticalAlign,
 };
-use cell_surface::{Change, Surface};
+use cell_surface::{Change, Position, Surface};
 use screen_formats::{write_ansi, write_html, write_json, write_svg, write_text};
 use std::process::Abort;
 use std::rc::Rc;
@@ -88,9 +89,11 @@ fn wide_cells_and_marks(rt: HostRuntime) {
     assert_html(
         &rt,
         &surface,
-        "<pre class=\"screen\" style=\"color:#e5e5e5;background-color:#000000;line-height:1.25;\">\
+        "<pre class=\"screen\" style=\"color:#e5e5e5;background-color:#000000;line-height:1.25;position:relative;\">\
          <span style=\"color:#e5e5e5;\">a</span><span style=\"color:#e5e5e5;display:inline-block;width:2ch;\">漢\
-         </span><span style=\"color:#e5e5e5;\">&lt;&amp;&quot;</span>\n</pre>\n",
+         </span><span style=\"color:#e5e5e5;\">&lt;&amp;&quot;</span>\n\
+         <span class=\"cursor\" style=\"position:absolute;left:5ch;top:calc(1.25em*0);width:1ch;height:1.25em;\
+         opacity:0.5;background-color:#e5e5e5;\"></span></pre>\n",
     );
 }
 
@@ -100,17 +103,19 @@ fn looks(rt: HostRuntime) {
     assert_html(
         &rt,
         &surface,
-        "<pre class=\"screen\" style=\"color:#e5e5e5;background-color:#000000;line-height:1.25;\">\
+        "<pre class=\"screen\" style=\"color:#e5e5e5;background-color:#000000;line-height:1.25;position:relative;\">\
          <span class=\"bold italic curly-underline overline strikethrough blink reverse superscript \" \
          style=\"color:#000000;background-color:#cd0000;font-weight:bold;font-style:italic;\
          text-decoration:underline overline line-through ;text-decoration-style:wavy;\
          display:inline-block;width:1ch;\">&#39;\
-         </span>\n</pre>\n",
+         </span>\n\
+         <span class=\"cursor\" style=\"position:absolute;left:0ch;top:calc(1.25em*0);width:1ch;height:1.25em;\
+         opacity:0.5;background-color:#e5e5e5;\"></span></pre>\n",
     );
     assert_ansi(
         &rt,
         &surface,
-        "\u{1b}[0;1;3;4:3;5;7;9;53;73;38;5;1m'\u{1b}[0m\n",
+        "\u{1b}[0;1;3;4:3;5;9;53;73;38;5;1m'\u{1b}[0m\n",
     );
 }
 
@@ -120,13 +125,15 @@ fn links(rt: HostRuntime) {
     assert_html(
         &rt,
         &page,
-        "<pre class=\"screen\" style=\"color:#e5e5e5;background-color:#000000;line-height:1.25;\">\
-         <a href=\"https://e.org/?a&amp;&quot;&gt;\" style=\"color:#e5e5e5;\">x</a>\n</pre>\n",
+        "<pre class=\"screen\" style=\"color:#e5e5e5;background-color:#000000;line-height:1.25;position:relative;\">\
+         <a href=\"https://e.org/?a&amp;&quot;&gt;\" style=\"color:#e5e5e5;\">x</a>\n\
+         <span class=\"cursor\" style=\"position:absolute;left:0ch;top:calc(1.25em*0);width:1ch;height:1.25em;\
+         opacity:0.5;background-color:#e5e5e5;\"></span></pre>\n",
     );
     assert_ansi(
         &rt,
         &page,
-        "\u{1b}[0m\u{1b}]8;;https://e.org/?a&\">\u{1b}\\x\u{1b}]8;;\u{1b}\\\u{1b}[0m\n",
+        "\u{1b}[0;7m\u{1b}]8;;https://e.org/?a&\">\u{1b}\\x\u{1b}]8;;\u{1b}\\\u{1b}[0m\n",
     );
 }
 
@@ -136,8 +143,10 @@ fn scripts_are_no_links(rt: HostRuntime) {
     assert_html(
         &rt,
         &script,
-        "<pre class=\"screen\" style=\"color:#e5e5e5;background-color:#000000;line-height:1.25;\">\
-         <span style=\"color:#e5e5e5;\">x</span>\n</pre>\n",
+        "<pre class=\"screen\" style=\"color:#e5e5e5;background-color:#000000;line-height:1.25;position:relative;\">\
+         <span style=\"color:#e5e5e5;\">x</span>\n\
+         <span class=\"cursor\" style=\"position:absolute;left:0ch;top:calc(1.25em*0);width:1ch;height:1.25em;\
+         opacity:0.5;background-color:#e5e5e5;\"></span></pre>\n",
     );
 }
 
@@ -192,7 +201,11 @@ fn markup_in_texts_and_titles(rt: HostRuntime) {
          style=\"fill:#e5e5e5;\">&lt;&amp;&gt;&quot;&#39;</text>\
          <rect x=\"60\" y=\"0\" width=\"10\" height=\"18\" fill=\"#e5e5e5\" fill-opacity=\"0.5\"></rect></svg>\n",
     );
-    assert_ansi(&rt, &surface, "\u{1b}[0m漢\u{1b}[0m<&>\"'\u{1b}[0m\n");
+    assert_ansi(
+        &rt,
+        &surface,
+        "\u{1b}[0m漢\u{1b}[0m<&>\"\u{1b}[0;7m'\u{1b}[0m\n",
+    );
 }
 
 #[test]
@@ -201,7 +214,33 @@ fn cells_that_a_font_may_widen(rt: HostRuntime) {
     assert_html(
         &rt,
         &surface,
-        "<pre class=\"screen\" style=\"color:#e5e5e5;background-color:#000000;line-height:1.25;\">\
-         <span style=\"color:#e5e5e5;display:inline-block;width:2ch;\">ｶé</span>\n</pre>\n",
+        "<pre class=\"screen\" style=\"color:#e5e5e5;background-color:#000000;line-height:1.25;position:relative;\">\
+         <span style=\"color:#e5e5e5;display:inline-block;width:2ch;\">ｶé</span>\n\
+         <span class=\"cursor\" style=\"position:absolute;left:1ch;top:calc(1.25em*0);width:1ch;height:1.25em;\
+         opacity:0.5;background-color:#e5e5e5;\"></span></pre>\n",
+    );
+}
+
+#[test]
+fn cursors(rt: HostRuntime) {
+    let mut surface = row_of(&rt, 4, CellAttributes::blank(), "a漢b");
+    let place = Change::CursorPosition {
+        x: Position::Absolute(2),
+        y: Position::Absolute(0),
+    };
+    add(&rt, &mut surface, place);
+    assert_ansi(&rt, &surface, "\u{1b}[0ma\u{1b}[0;7m漢\u{1b}[0mb\u{1b}[0m\n");
+    add(
+        &rt,
+        &mut surface,
+        Change::CursorVisibility(CursorVisibility::Hidden),
+    );
+    assert_ansi(&rt, &surface, "\u{1b}[0ma\u{1b}[0m漢\u{1b}[0mb\u{1b}[0m\n");
+    assert_html(
+        &rt,
+        &surface,
+        "<pre class=\"screen\" style=\"color:#e5e5e5;background-color:#000000;line-height:1.25;position:relative;\">\
+         <span style=\"color:#e5e5e5;\">a</span><span style=\"color:#e5e5e5;display:inline-block;width:2ch;\">漢\
+         </span><span style=\"color:#e5e5e5;\">b</span>\n</pre>\n",
     );
 }

@@ -14,4 +14,4 @@ returns g c =
     let opened = c.in_ok-push_opening.ensures ∙ ap (λ (t : List ℕ). string_bytes c.args.out.now ++ tokens_text Html (Opening (codes "pre") ((codes "class", codes "screen") ∷ (codes "style", t) ∷ []) ∷ [])) style in
     let rows = c.in_ok-push_rows.ensures ∙ ap (λ (rows : List Row). string_bytes c.push_opening.new.out ++ tokens_text Html (html_rows rows)) c.screen_lines.ensures.rows in
     let closed = written_more Html _ _ _ _ _ c.in_ok-push_closing.ensures c.in_ok-push_words.ensures in
-    written_more Html _ _ _ _ _ opened (written_more Html _ _ _ _ _ rows closed)
+    written_more Html _ _ _ _ _ opened (written_more Html _ _ _ _ _ rows (written_more Html _ _ _ _ _ c.in_ok-push_cursor.ensures closed))
