@@ -16,6 +16,9 @@ from pathlib import Path
 
 ROOT = Path(__file__).resolve().parent.parent
 TO_RUN = 3
+BAD_OUTPUT = "the value of '--output <NAME>' has no place for a number, as %04d"
+# A name with a place for a number.
+NUMBERED = re.compile(r"[^%]*%0[1-9]d")
 BAD_SECONDS = "the value of '--{} <SECONDS>' is no decimal number of seconds from 0 on, or too large, or a step of none"
 HINT = "\n\nFor more information, try '--help'.\n"
 # Options that exclude others, which a program checks once it has read all words.
@@ -151,7 +154,7 @@ class Reading:
         option, key, sign, value = self.named(word)
         if sign and not option.value:
             fault = f"unexpected value '{value}' for '{key}' found; no more were expected"
-            self.refuse(fault, f"{self.name} {key}")
+            self.refuse(fault, f"{self.name} {key}" + (" [FILE]" if "[FILE]" in self.usage else ""))
         if option.name in ("help", "version"):
             return self.help_text if option.name == "help" else self.version
         if option.value and not sign:
@@ -184,6 +187,8 @@ class Reading:
         bad = fault_of_seconds(self.given)
         if bad:
             self.refuse(BAD_SECONDS.format(bad))
+        if not NUMBERED.match(self.given.get("output", "%01d")):
+            self.refuse(BAD_OUTPUT)
         return ""
 
 

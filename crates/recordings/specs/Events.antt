@@ -1,4 +1,4 @@
--- The event that a line of a recording has: asciicast, versions 2 and 3.
+-- The event that a line of a recording has: asciicast, versions 2 and 3; and one of version 1.
 use Rattle.std.specs.Prelude.{Bool, ℕ, ◌==◌, List, Option, Some, None, Result, Ok, Err, codes, length, nat_lt}
 use Rattle.std.specs.Prelude.{option_and_then, if◌then◌else◌}
 use Rattle.std.specs.List.{after_first, before_first, position_or_len}
@@ -23,8 +23,8 @@ pub record Event : Type 0 where
   pub time : ℕ
   pub act : Act
 
--- the time and the act of a line, the time in microseconds: in version 2 from the beginning, in version 3 from the
--- event before it; no act where the event's code is neither `o` nor `r`
+-- the time and the act of an event, the time in microseconds: in version 2 from the beginning, in versions 1 and 3 from
+-- the event before it; no act where the event's code is neither `o` nor `r`
 pub record Entry : Type 0 where
   pub time : ℕ
   pub act : Option Act
@@ -75,6 +75,17 @@ entry_with (Some time) (Some code) text = entry_at time (act_in code text)
 abbrev pub text_at : ℕ → Json → Option (List ℕ)
 text_at n event = option_and_then as_str (at n event)
 
+abbrev pub time_in : Json → Option ℕ
+time_in event = option_and_then time_of (option_and_then as_number (at 0 event))
+
 unfoldable pub entry_in : Json → Result Entry Fault
-entry_in event =
-    entry_with (option_and_then time_of (option_and_then as_number (at 0 event))) (text_at 1 event) (text_at 2 event)
+entry_in event = entry_with (time_in event) (text_at 1 event) (text_at 2 event)
+
+-- ---- [delay, data], in version 1
+
+abbrev pub output_after : Option ℕ → Option (List ℕ) → Result Entry Fault
+output_after None text = Err Time
+output_after (Some delay) text = entry_at delay (output_in text)
+
+unfoldable pub delayed_entry : Json → Result Entry Fault
+delayed_entry event = output_after (time_in event) (text_at 1 event)

@@ -1,19 +1,19 @@
--- A recording: its header, and its lines in turn.
+-- A recording: its header, and its lines in turn; or one object, in version 1.
 use Rattle.std.specs.Prelude.{Bool, true, false, ℕ, ◌+◌, ◌==◌, ◌||◌, List, [], ◌∷◌, ◌++◌, Option, Some, None, Result}
-use Rattle.std.specs.Prelude.{Ok, Err, codes, length, slice_index, option_and_then, is_some, nat_le, nat_lt}
+use Rattle.std.specs.Prelude.{Ok, Err, codes, length, slice_index, option_and_then, unwrap_or, is_some, nat_le, nat_lt}
 use Rattle.std.specs.Prelude.{if◌then◌else◌}
 use Rattle.std.specs.List.{slice_split}
 use Rattle.std.specs.Str.{bytes_eq}
-use Rattle.json.specs.Find.{as_number, as_str, get}
-use Rattle.json.specs.Json.{Json}
-use Rattle.recordings.specs.Events.{Act, Output, Event, Entry, entry_in, json_of}
+use Rattle.json.specs.Find.{as_array, as_number, as_str, get}
+use Rattle.json.specs.Json.{Json, Items, no_items, item}
+use Rattle.recordings.specs.Events.{Act, Output, Event, Entry, delayed_entry, entry_in, json_of}
 use Rattle.recordings.specs.Numerals.{count_of, size_of, too_late}
 use Rattle.recordings.specs.declared.fault.BadLine.{BadLine}
 use Rattle.recordings.specs.declared.fault.Fault.{Fault}
-use Rattle.recordings.specs.declared.fault.Fault.TheVariants.{Back, HeaderSize, Late, NotJson}
-use Rattle.recordings.specs.declared.fault.Fault.TheVariants.{Version as UnknownVersion}
+use Rattle.recordings.specs.declared.fault.Fault.TheVariants.{Back, CutOff, HeaderSize, Late, NotJson, NotWhole}
+use Rattle.recordings.specs.declared.fault.Fault.TheVariants.{Outputs, Version as UnknownVersion}
 use Rattle.recordings.specs.declared.header.Version.{Version}
-use Rattle.recordings.specs.declared.header.Version.TheVariants.{Two, Three}
+use Rattle.recordings.specs.declared.header.Version.TheVariants.{One, Two, Three}
 
 -- ---- the header
 
@@ -42,10 +42,10 @@ head_of_size version term None height = Bad HeaderSize
 head_of_size version term (Some width) None = Bad HeaderSize
 head_of_size version term (Some width) (Some height) = Recorded version width height (is_own_term term)
 
--- version 2 has the size in `width` and `height`, and the TERM in `TERM` of the member `env`
-abbrev pub second_head : Json → Head
-second_head header =
-    head_of_size Two (option_and_then (text_in (codes "TERM")) (get (codes "env") header))
+-- versions 1 and 2 have the size in `width` and `height`, and the TERM in `TERM` of the member `env`
+abbrev pub flat_head : Version → Json → Head
+flat_head version header =
+    head_of_size version (option_and_then (text_in (codes "TERM")) (get (codes "env") header))
     (member_of size_of (codes "width") header) (member_of size_of (codes "height") header)
 
 -- version 3 has the size in `cols` and `rows` of the member `term`, and the TERM in its `type`
@@ -55,11 +55,13 @@ term_head (Some term) =
     head_of_size Three (text_in (codes "type") term)
     (member_of size_of (codes "cols") term) (member_of size_of (codes "rows") term)
 
+-- a first line of version 1 is wrong, since it isn't the whole input
 abbrev pub head_by : Option ℕ → Json → Head
 head_by None header = Bytes
 head_by (Some version) header =
-    if version == 2 then second_head header
-    else (if version == 3 then term_head (get (codes "term") header) else Bad UnknownVersion)
+    if version == 1 then Bad NotWhole
+    else (if version == 2 then flat_head Two header
+    else (if version == 3 then term_head (get (codes "term") header) else Bad UnknownVersion))
 
 abbrev pub head_in : Option Json → Head
 head_in None = Bytes
@@ -82,12 +84,14 @@ pub record Reader : Type 0 where
 
 -- whether a line is skipped: an empty line, and in version 3 a comment, which begins with `#`
 abbrev pub is_passed_over : Version → List ℕ → Bool
+is_passed_over One line = false
 is_passed_over Two line = length line == 0
 is_passed_over Three line = (length line == 0) || (slice_index line 0 == 35)
 
--- the time after a line, from the time before it and the line's own time: in version 2 the line's time, except that a
--- line without an act leaves the time as it is; in version 3 the sum of both
+-- the time after an event, from the time before it and the event's own time: in versions 1 and 3 the sum of both; in
+-- version 2 the event's time, except that an event without an act leaves the time as it is
 abbrev pub time_after : Version → ℕ → ℕ → Bool → Result ℕ Fault
+time_after One before time is_done = if nat_lt (before + time) too_late then Ok (before + time) else Err Late
 time_after Two before time false = Ok before
 time_after Two before time true = if nat_le before time then Ok time else Err Back
 time_after Three before time is_done = if nat_lt (before + time) too_late then Ok (before + time) else Err Late
@@ -109,20 +113,37 @@ with_entry number (Err fault) reading = with_fault number fault reading
 with_entry number (Ok entry) reading =
     with_time number (time_after reading.version reading.time entry.time (is_some entry.act)) entry.act reading
 
-abbrev pub with_value : ℕ → Option Json → Reader → Reader
-with_value number None reading = with_fault number NotJson reading
-with_value number (Some event) reading = with_entry number (entry_in event) reading
+-- a last line that is no JSON is cut off, since nothing ends it but the end of the input
+abbrev pub with_value : ℕ → Bool → Option Json → Reader → Reader
+with_value number is_last None reading = with_fault number (if is_last then CutOff else NotJson) reading
+with_value number is_last (Some event) reading = with_entry number (entry_in event) reading
 
 -- a reader after the line with this number; after a fault no line is read
-unfoldable pub line_read : ℕ → Reader → List ℕ → Reader
-line_read number reading line =
+unfoldable pub line_read : ℕ → Bool → Reader → List ℕ → Reader
+line_read number is_last reading line =
     if is_some reading.fault || is_passed_over reading.version line then reading
-    else with_value number (json_of line) reading
+    else with_value number is_last (json_of line) reading
 
 -- a reader after lines, of which the first has this number
 abbrev pub lines_read : ℕ → Reader → List (List ℕ) → Reader
 lines_read number reading [] = reading
-lines_read number reading (line ∷ lines) = lines_read (number + 1) (line_read number reading line) lines
+lines_read number reading (line ∷ lines) =
+    lines_read (number + 1) (line_read number (length lines == 0) reading line) lines
+
+-- ---- the events of version 1
+
+-- a reader after an event; after a fault no event is read
+unfoldable pub item_read : Reader → Json → Reader
+item_read reading event = if is_some reading.fault then reading else with_entry 1 (delayed_entry event) reading
+
+abbrev pub items_read : Reader → Items → Reader
+items_read reading no_items = reading
+items_read reading (item event events) = items_read (item_read reading event) events
+
+-- a reader after the list of all events, if there is one
+abbrev pub list_read : Option Items → Reader → Reader
+list_read None reading = with_fault 1 Outputs reading
+list_read (Some events) reading = items_read reading events
 
 -- ---- the whole
 
@@ -178,10 +199,30 @@ recording_by (Bad fault) width height input lines = bad_recording width height f
 recording_by (Recorded version columns rows has_own_term) width height input lines =
     recording_read columns rows has_own_term (lines_read 2 (reading_first version) lines)
 
+-- an input of lines
 abbrev pub recording_in : ℕ → ℕ → List ℕ → List (List ℕ) → Recording
 recording_in width height input [] = bytes_recording width height input
 recording_in width height input (line ∷ lines) = recording_by (head_of line) width height input lines
 
+-- an input that is one object with the version 1 is a header, and has its events in the list `stdout`
+abbrev pub whole_head : Option ℕ → Json → Head
+whole_head None whole = Bytes
+whole_head (Some version) whole = if version == 1 then flat_head One whole else Bytes
+
+abbrev pub whole_by : Head → ℕ → ℕ → Json → Option Recording
+whole_by Bytes width height whole = None
+whole_by (Bad fault) width height whole = Some (bad_recording width height fault)
+whole_by (Recorded version columns rows has_own_term) width height whole =
+    Some (recording_read columns rows has_own_term
+    (list_read (option_and_then as_array (get (codes "stdout") whole)) (reading_first version)))
+
+-- the recording of version 1 that an input is, if it is one
+abbrev pub whole_recording : ℕ → ℕ → Option Json → Option Recording
+whole_recording width height None = None
+whole_recording width height (Some whole) =
+    whole_by (whole_head (member_of count_of (codes "version") whole) whole) width height whole
+
 -- the recording in an input; the width and the height are for an input without a header
 unfoldable pub recording_of : ℕ → ℕ → List ℕ → Recording
-recording_of width height input = recording_in width height input (lines_of input)
+recording_of width height input =
+    unwrap_or (whole_recording width height (json_of input)) (recording_in width height input (lines_of input))

@@ -1,9 +1,8 @@
-//! A line of a recording, read: its time and its act.
+//! An event of a recording, read: its time and its act.
 ghost use Rattle.std.specs.Prelude.{◌≡◌, IfOk, option_and_then, option_map};
-ghost use Rattle.json.specs.Find.{as_number, at};
 ghost use Rattle.json.specs.Value.{value_view};
-ghost use Rattle.recordings.specs.Numerals.{time_of};
-ghost use Rattle.recordings.specs.Events.{act_in, entry_in, json_of, output_in, resize_in, resize_of, text_at};
+ghost use Rattle.recordings.specs.Events.{act_in, delayed_entry, entry_in, json_of, output_in, resize_in, resize_of};
+ghost use Rattle.recordings.specs.Events.{text_at, time_in};
 ghost use Rattle.recordings.specs.EventView.{entry_of, line_act_of, result_of};
 
 use crate::fault::Fault;
@@ -13,21 +12,21 @@ use json::{Error, Scratch, Value};
 use std::alloc::{AllocError, Global};
 use std::str;
 
-/// The act of a line.
+/// The act of an event.
 #[derive(Clone, Copy, Debug)]
 pub(crate) enum LineAct<'a> {
     Output(&'a str),
     Resize(Size),
 }
 
-/// The time of a line in microseconds, and its act, which only lines of the codes `o` and `r` have.
+/// The time of an event in microseconds, and its act, which only events of the codes `o` and `r` have.
 #[derive(Clone, Copy, Debug)]
 pub(crate) struct Entry<'a> {
     pub(crate) time: u64,
     pub(crate) act: Option<LineAct<'a>>,
 }
 
-/// The value of a line that is UTF-8 and JSON.
+/// The value of a line, or of an input, that is UTF-8 and JSON.
 pub(crate) fn json_of<'a>(
     alloc: Global,
     line: &'a [u8],
@@ -99,7 +98,7 @@ fn text_at<'a>(event: &Value<'a>, index: usize) -> Option<&'a str>
 
 // The first item of an event, if it is a time.
 fn time_in(event: &Value<'_>) -> Option<u64>
-    ensures { result ≡ option_and_then time_of (option_and_then as_number (at 0 (value_view event.now))) }
+    ensures { result ≡ time_in (value_view event.now) }
 {
     time_of(event.at(0)?.as_number()?)
 }
@@ -116,6 +115,20 @@ pub(crate) fn entry_in<'a>(event: &Value<'a>) -> Result<Entry<'a>, Fault>
         return Err(Fault::Code);
     };
     match act_in(code, text_at(event, 2)) {
+        Ok(act) => Ok(Entry { time, act }),
+        Err(fault) => Err(fault),
+    }
+}
+
+/// The time and the act of an event of version 1: a list of its delay and its output.
+#[tactic(auto, unfolding(crate::specs::Events::delayed_entry))]
+pub(crate) fn delayed_entry<'a>(event: &Value<'a>) -> Result<Entry<'a>, Fault>
+    ensures { result_of entry_of result ≡ delayed_entry (value_view event.now) }
+{
+    let Some(time) = time_in(event) else {
+        return Err(Fault::Time);
+    };
+    match output_in(text_at(event, 1)) {
         Ok(act) => Ok(Entry { time, act }),
         Err(fault) => Err(fault),
     }

@@ -4,8 +4,8 @@ ghost use Rattle.json.specs.Find.{get};
 ghost use Rattle.json.specs.Value.{value_view};
 ghost use Rattle.recordings.specs.Numerals.{count_of, size_of};
 ghost use Rattle.recordings.specs.HeadView.{head_value};
-ghost use Rattle.recordings.specs.Recordings.{head_by, head_in, head_of, head_of_size, is_own_term, member_of};
-ghost use Rattle.recordings.specs.Recordings.{second_head, term_head, text_in};
+ghost use Rattle.recordings.specs.Recordings.{flat_head, head_by, head_in, head_of, head_of_size, is_own_term};
+ghost use Rattle.recordings.specs.Recordings.{member_of, term_head, text_in, whole_head};
 
 use crate::entry::json_of;
 use crate::fault::Fault;
@@ -17,6 +17,8 @@ use std::alloc::{AllocError, Global};
 /// A version of asciicast.
 #[derive(Clone, Copy, Debug, PartialEq, Eq)]
 pub(crate) enum Version {
+    /// One object has all; times are from the event before.
+    One,
     /// Times are from the beginning.
     Two,
     /// Times are from the event before, and lines that begin with `#` are comments.
@@ -49,8 +51,8 @@ fn text_in<'a>(value: &Value<'a>, name: &str) -> Option<&'a str>
     value.get(name)?.as_str()
 }
 
-// The TERM in the environment of a header of version 2.
-fn second_term<'a>(header: &Value<'a>) -> Option<&'a str>
+// The TERM in the environment of a header of version 1 or 2.
+fn env_term<'a>(header: &Value<'a>) -> Option<&'a str>
     ensures { option_map (λ t. t.now) result
         ≡ option_and_then (text_in (codes "TERM")) (get (codes "env") (value_view header.now)) }
 {
@@ -85,13 +87,13 @@ fn head_of_size(
     }
 }
 
-// Version 2 has the size in `width` and `height`, and the TERM in `TERM` of the member `env`.
-fn second_head(header: &Value<'_>) -> Head
-    ensures { head_value result ≡ second_head (value_view header.now) }
+// Versions 1 and 2 have the size in `width` and `height`, and the TERM in `TERM` of the member `env`.
+fn flat_head(version: Version, header: &Value<'_>) -> Head
+    ensures { head_value result ≡ flat_head version (value_view header.now) }
 {
     let width = size_in(header, "width");
     let height = size_in(header, "height");
-    head_of_size(Version::Two, second_term(header), width, height)
+    head_of_size(version, env_term(header), width, height)
 }
 
 // Version 3 has the size in `cols` and `rows` of the member `term`, and the TERM in its `type`.
@@ -117,7 +119,8 @@ fn head_in(header: &Value<'_>) -> Head
     ensures { head_value result ≡ head_in (Some (value_view header.now)) }
 {
     match version_in(header) {
-        Some(2) => second_head(header),
+        Some(1) => Head::Bad(Fault::NotWhole),
+        Some(2) => flat_head(Version::Two, header),
         Some(3) => third_head(header),
         Some(_) => Head::Bad(Fault::Version),
         None => Head::Bytes,
@@ -133,5 +136,16 @@ pub(crate) fn read_head(alloc: Global, line: &[u8]) -> Result<Head, AllocError>
     match json_of(alloc, line, &mut scratch)? {
         Some(header) => Ok(head_in(&header)),
         None => Ok(Head::Bytes),
+    }
+}
+
+/// The header of an input that is one object: a header is only one of version 1.
+pub(crate) fn whole_head(whole: &Value<'_>) -> Head
+    ensures { head_value result ≡ whole_head (member_of count_of (codes "version") (value_view whole.now))
+        (value_view whole.now) }
+{
+    match version_in(whole) {
+        Some(1) => flat_head(Version::One, whole),
+        _ => Head::Bytes,
     }
 }

@@ -1,13 +1,13 @@
-//! A recording that is read line by line.
-ghost use Rattle.std.specs.Prelude.{◌≡◌, IfOk, OnOk, Ok, Some, option_map};
+//! A recording that is read event by event.
+ghost use Rattle.std.specs.Prelude.{◌≡◌, IfOk, OnOk, None, Ok, option_map};
 ghost use Rattle.json.specs.Value.{value_view};
-ghost use Rattle.recordings.specs.Events.{json_of};
+ghost use Rattle.recordings.specs.Events.{entry_in, json_of};
 ghost use Rattle.recordings.specs.EventView.{act_of, entry_of, line_act_of};
-ghost use Rattle.recordings.specs.Recordings.{is_passed_over, line_read, reading_first, time_after, with_act};
-ghost use Rattle.recordings.specs.Recordings.{with_entry, with_fault, with_value};
+ghost use Rattle.recordings.specs.Recordings.{is_passed_over, item_read, line_read, list_read, reading_first};
+ghost use Rattle.recordings.specs.Recordings.{time_after, with_act, with_entry, with_fault, with_value};
 ghost use Rattle.recordings.specs.RecordingView.{reading_of};
 
-use crate::entry::{Entry, LineAct, entry_in, json_of};
+use crate::entry::{Entry, LineAct, delayed_entry, entry_in, json_of};
 use crate::event::{Act, Event};
 use crate::fault::{BadLine, Fault};
 use crate::header::Version;
@@ -30,6 +30,7 @@ fn is_passed_over(version: Version, line: &[u8]) -> bool
     ensures { result ≡ is_passed_over version line.now }
 {
     match version {
+        Version::One => false,
         Version::Two => line.is_empty(),
         Version::Three => line.is_empty() || line[0] == b'#',
     }
@@ -37,8 +38,8 @@ fn is_passed_over(version: Version, line: &[u8]) -> bool
 
 const TOO_LATE: u64 = 1 << 63;
 
-// The time after a line, from the time before it and the line's own time: in version 2 the line's time, if it has an
-// act; in version 3 the sum of both.
+// The time after an event, from the time before it and the event's own time: in version 2 the event's time, if it has
+// an act; in versions 1 and 3 the sum of both.
 fn time_after(version: Version, before: u64, time: u64, is_done: bool) -> Result<u64, Fault>
     ensures { result ≡ time_after version before time is_done }
 {
@@ -46,7 +47,7 @@ fn time_after(version: Version, before: u64, time: u64, is_done: bool) -> Result
         Version::Two if !is_done => Ok(before),
         Version::Two if before <= time => Ok(time),
         Version::Two => Err(Fault::Back),
-        Version::Three => {
+        Version::One | Version::Three => {
             let time = before.saturating_add(time);
             if time < TOO_LATE {
                 Ok(time)
@@ -130,7 +131,7 @@ impl Reader {
         value: &Value<'_>,
     ) -> Result<(), AllocError>
         ensures { OnOk result
-            (reading_of self.new ≡ with_value number (Some (value_view value.now)) (reading_of self.old)) }
+            (reading_of self.new ≡ with_entry number (entry_in (value_view value.now)) (reading_of self.old)) }
     {
         match entry_in(value) {
             Ok(entry) => self.take_entry(alloc, number, entry)?,
@@ -140,31 +141,62 @@ impl Reader {
     }
 
     // Takes a line that is not passed over.
-    fn take_line(&mut self, alloc: Global, number: usize, line: &[u8]) -> Result<(), AllocError>
-        ensures { OnOk result (reading_of self.new ≡ with_value number (json_of line.now) (reading_of self.old)) }
+    fn take_line(
+        &mut self,
+        alloc: Global,
+        number: usize,
+        is_last: bool,
+        line: &[u8],
+    ) -> Result<(), AllocError>
+        ensures { OnOk result
+            (reading_of self.new ≡ with_value number is_last (json_of line.now) (reading_of self.old)) }
     {
         let mut scratch = Scratch::new(alloc);
         match json_of(alloc, line, &mut scratch)? {
             Some(value) => self.take_value(alloc, number, &value)?,
+            None if is_last => self.refuse(number, Fault::CutOff),
             None => self.refuse(number, Fault::NotJson),
         }
         Ok(())
     }
 
-    /// Reads the line of a number.
+    /// Reads an event of version 1.
+    #[tactic(auto, unfolding(crate::specs::Recordings::item_read))]
+    pub(crate) fn read_item(&mut self, alloc: Global, event: &Value<'_>) -> Result<(), AllocError>
+        ensures { OnOk result (reading_of self.new ≡ item_read (reading_of self.old) (value_view event.now)) }
+    {
+        if self.fault.is_some() {
+            return Ok(());
+        }
+        match delayed_entry(event) {
+            Ok(entry) => self.take_entry(alloc, 1, entry)?,
+            Err(fault) => self.refuse(1, fault),
+        }
+        Ok(())
+    }
+
+    /// Notes that the events of version 1 are no list.
+    pub(crate) fn refuse_list(&mut self)
+        ensures { reading_of self.new ≡ list_read None (reading_of self.old) }
+    {
+        self.refuse(1, Fault::Outputs);
+    }
+
+    /// Reads the line of a number, which may be the last one.
     #[tactic(auto, unfolding(crate::specs::Recordings::line_read))]
     pub(crate) fn read_line(
         &mut self,
         alloc: Global,
         number: usize,
+        is_last: bool,
         line: &[u8],
     ) -> Result<(), AllocError>
-        ensures { OnOk result (reading_of self.new ≡ line_read number (reading_of self.old) line.now) }
+        ensures { OnOk result (reading_of self.new ≡ line_read number is_last (reading_of self.old) line.now) }
     {
         if self.fault.is_some() || is_passed_over(self.version, line) {
             return Ok(());
         }
-        self.take_line(alloc, number, line)?;
+        self.take_line(alloc, number, is_last, line)?;
         Ok(())
     }
 }

@@ -1,6 +1,6 @@
 -- Events that are cut at a time, and a recording of one screen.
-use Rattle.std.proofs.Common.{◌≡◌, ◌≤◌, ◌<◌, ℕ, suc, ◌+◌, Bool, true, false, List, [], ◌∷◌, ◌++◌, Option, None, take, drop, refl, sym, ap, ◌∙◌, arith, append-nil}
-use Rattle.std.specs.Prelude.{cond, filter, is_some, nat_le, nat_lt, not, ◌||◌, if◌then◌else◌}
+use Rattle.std.proofs.Common.{◌≡◌, ◌<◌, ℕ, suc, ◌+◌, Bool, true, false, List, [], ◌∷◌, ◌++◌, Option, None, take, drop, refl, sym, ap, ◌∙◌, arith, append-nil}
+use Rattle.std.specs.Prelude.{filter, is_some, nat_lt, not, ◌||◌, if◌then◌else◌}
 use Rattle.std.specs.List.{prefix_len}
 use Rattle.std.proofs.lemmas.Bool.{leb-false, lt-leb}
 use Rattle.cell_base.specs.Cluster.{program_width}

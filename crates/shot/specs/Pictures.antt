@@ -18,3 +18,11 @@ picture Ansi screen = ansi_text screen
 picture Html screen = page ++ html_text screen
 picture Svg screen = svg_text screen
 picture Json screen = json_text screen ++ 10 ∷ []
+
+-- what parts a screen from the one before it: an empty line, where screens are rows of text, which are never empty
+abbrev pub between : Format → List ℕ
+between Text = 10 ∷ []
+between Ansi = 10 ∷ []
+between Html = []
+between Svg = []
+between Json = []

@@ -1,12 +1,15 @@
 -- The screens that are written of a recording, and their times.
-use Rattle.std.specs.Prelude.{ℕ, zero, suc, ◌+◌, ◌-◌, ◌/◌, ◌==◌, Bool, nat_le, nat_lt, ◌||◌, ◌&&◌, not, List, [], ◌∷◌}
-use Rattle.std.specs.Prelude.{Option, Some, None, is_some, length, map, slice_index, unwrap_or, if◌then◌else◌}
-use Rattle.std.specs.List.{flat_map}
+use Rattle.std.specs.Prelude.{ℕ, zero, suc, ◌+◌, ◌-◌, ◌/◌, ◌==◌, Bool, nat_le, nat_lt, ◌||◌, ◌&&◌, not, List, []}
+use Rattle.std.specs.Prelude.{◌∷◌, ◌++◌, Option, Some, None, is_some, length, map, slice_index, unwrap_or}
+use Rattle.std.specs.Prelude.{if◌then◌else◌}
+use Rattle.cell_base.specs.Screen.{Screen}
 use Rattle.recordings.specs.Events as recorded
 use Rattle.recordings.specs.Recordings.{Recording}
-use Rattle.shot.specs.Pictures.{picture}
+use Rattle.shot.specs.Pictures.{between, picture}
 use Rattle.shot.specs.Play.{screens_at}
+use Rattle.shot.specs.Sinks.{lead}
 use Rattle.shot.specs.declared.format.Format.{Format}
+use Rattle.shot.specs.Words.{fault_left}
 use Rattle.shot.specs.declared.options.Options.{Options}
 use Rattle.terminal_steps.specs.ProfileView.{modes_of}
 use Rattle.terminal_steps.specs.declared.profile.Profile.{Profile}
@@ -46,9 +49,21 @@ times_of at step recording =
     if is_known at recording then multiples step (end_of at recording.events) (end_of at recording.events ∷ [])
     else multiples step (last_time recording.events) []
 
--- the screens at these times, one after another
+-- a screen after `number` other ones, and before it what parts it from them
+abbrev pub parted : Format → ℕ → Screen → List ℕ
+parted format number screen = lead number (between format) ++ picture format screen
+
+-- screens one after another, after `number` other ones
+abbrev pub joined : Format → ℕ → List Screen → List ℕ
+joined format number [] = []
+joined format number (screen ∷ screens) = parted format number screen ++ joined format (number + 1) screens
+
+-- the screens at some times, from a view, after `number` other ones
+abbrev pub pictures_after : ℕ → Format → View → List recorded.Event → List ℕ → List ℕ
+pictures_after number format view events times = joined format number (screens_at view events times)
+
 abbrev pub pictures : Format → View → List recorded.Event → List ℕ → List ℕ
-pictures format view events times = flat_map (picture format) (screens_at view events times)
+pictures format view events times = pictures_after 0 format view events times
 
 -- the view of a new terminal of a profile, of the recording's size
 abbrev pub first_view : Profile → Recording → View
@@ -74,8 +89,12 @@ abbrev pub with_size : Option ℕ → Option ℕ → Recording → Recording
 with_size width height recording =
     record recording { width = chosen recording.width width; height = chosen recording.height height }
 
+-- a recording with the fault that `--partial` leaves
+abbrev pub with_part : Bool → Recording → Recording
+with_part is_partial recording = record recording { fault = fault_left is_partial recording.fault }
+
 -- the screens that the options ask for of a recording
 abbrev pub shots_for : Options → Recording → List ℕ
 shots_for options recording =
     shots options.asked.format options.asked.at options.asked.step (profile_for options.profile recording.has_own_term)
-    (with_size options.width options.height recording)
+    (with_size options.width options.height (with_part options.is_partial recording))

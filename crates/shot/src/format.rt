@@ -2,7 +2,7 @@
 ghost use Rattle.std.specs.Prelude.{◌≡◌, IfOk};
 ghost use Rattle.std.specs.String.{string_bytes};
 ghost use Rattle.cell_surface.specs.Surface.{shown_by};
-ghost use Rattle.shot.specs.Pictures.{picture};
+ghost use Rattle.shot.specs.Pictures.{between, picture};
 
 use cell_base::Widths;
 use cell_surface::Surface;
@@ -22,6 +22,17 @@ pub enum Format {
     Svg,
     /// An object of JSON, in one line.
     Json,
+}
+
+/// What parts a screen from the one before it, where screens come one after another: an empty line, where they are rows
+/// of text.
+pub fn between(format: Format) -> &'static str
+    ensures { result.now ≡ between format }
+{
+    match format {
+        Format::Text | Format::Ansi => "\n",
+        Format::Html | Format::Svg | Format::Json => "",
+    }
 }
 
 /// A screen in a form.

@@ -1,9 +1,11 @@
 //! The options of a command line.
 ghost use Rattle.std.specs.Prelude.{◌≡◌, codes, option_and_then};
-ghost use Rattle.clap.specs.Words.{first_value, found_of};
-ghost use Rattle.shot.specs.Words.{asked_by, format_of, profile_named, reading_of, seconds_of};
+ghost use Rattle.clap.specs.Words.{first_value, found_of, one_text};
+ghost use Rattle.shot.specs.Words.{asked_by, format_of, is_given, output_of, output_read, profile_named, reading_of};
+ghost use Rattle.shot.specs.Words.{seconds_of};
 
 use crate::format::Format;
+use crate::names::{Numbered, numbered_in};
 use crate::shots::Shots;
 use clap::{Arg, ArgAction, ArgMatches, Command, Error, value_parser};
 use recordings::time_of;
@@ -22,6 +24,10 @@ pub struct Options<'a> {
     pub height: Option<u32>,
     /// The functions that the application's terminal has, in place of those that the input tells.
     pub profile: Option<Profile>,
+    /// Whether a recording that is cut off in its last line is shown as far as it goes.
+    pub is_partial: bool,
+    /// The files that the screens are written to, or standard output.
+    pub output: Option<Numbered<'a>>,
     /// The file that is read, or standard input.
     pub file: Option<&'a str>,
 }
@@ -33,6 +39,8 @@ pub enum BadWords {
     Command(Error),
     /// The option of this name has no number of seconds, or a step of 0.
     Seconds(&'static str),
+    /// The name of the files has no place for a number.
+    Output,
 }
 
 const FORMATS: [&str; 5] = ["text", "ansi", "html", "svg", "json"];
@@ -62,13 +70,14 @@ fn format_option<'a>(alloc: Global) -> Arg<'a> {
 // The help text on input and output.
 const MORE: &str = "\
 Input: the bytes that an application writes to its terminal; or a recording in
-asciicast version 2 or 3, which has its size; its first line tells it apart.
+asciicast version 1, 2 or 3, which has its size and is told apart by its header.
 
 Examples:
   shot < output
   shot --format svg session.cast > last.svg
   shot --format html --at 12.5 session.cast > page.html
-  shot --format json --step 1 session.cast";
+  shot --format json --step 1 session.cast
+  shot --format svg --step 1 --output page-%04d.svg session.cast";
 
 fn named_command<'a>(alloc: Global) -> Result<Command<'a>, AllocError> {
     let command = Command::new(alloc, "shot")
@@ -119,7 +128,17 @@ fn timed_command<'a>(alloc: Global, command: Command<'a>) -> Result<Command<'a>,
         "step",
         "Also write the screen at each multiple of this time before that",
     );
-    command.arg(at)?.arg(step)
+    let partial = Arg::new(alloc, "partial")
+        .long("partial")
+        .action(ArgAction::SetTrue)
+        .help("Show what came before where a recording is cut off in its last line");
+    let output = option(
+        alloc,
+        "output",
+        "NAME",
+        "Write each screen to a file of its own; %04d in NAME stands for its number, from 0001 on",
+    );
+    command.arg(at)?.arg(step)?.arg(partial)?.arg(output)
 }
 
 fn command<'a>(alloc: Global) -> Result<Command<'a>, AllocError> {
@@ -161,6 +180,14 @@ fn profile(matches: &ArgMatches<'_>) -> Option<Profile>
     profile_named(matches.get_str("terminal")?)
 }
 
+// Whether an option that takes no value is given.
+#[tactic(auto, unfolding(crate::specs::Words::is_given))]
+fn is_given(matches: &ArgMatches<'_>, name: &str) -> bool
+    ensures { result ≡ is_given (one_text (found_of matches.now) name.now) }
+{
+    matches.get_one::<bool>(name).unwrap_or(false)
+}
+
 // The microseconds of an option's number of seconds, if the option is given.
 #[tactic(auto, unfolding(crate::specs::Words::seconds_of))]
 fn seconds(matches: &ArgMatches<'_>, name: &'static str) -> Result<Option<u64>, BadWords>
@@ -193,6 +220,20 @@ fn asked(matches: &ArgMatches<'_>) -> Result<Shots, BadWords>
     }
 }
 
+// The name of the files that the matches name, if they name one.
+#[tactic(auto, unfolding(crate::specs::Words::output_of))]
+fn output<'a>(matches: &ArgMatches<'a>) -> Result<Option<Numbered<'a>>, BadWords>
+    ensures { output_read result ≡ output_of (first_value (found_of matches.now) (codes "output")) }
+{
+    let Some(name) = matches.get_str("output") else {
+        return Ok(None);
+    };
+    match numbered_in(name) {
+        Some(name) => Ok(Some(name)),
+        None => Err(BadWords::Output),
+    }
+}
+
 /// Reads a command line, of which the first word is the program's name.
 pub fn read<'a, S: AsStr>(alloc: Global, words: &'a [S]) -> Result<Options<'a>, BadWords> {
     let matches = match matches_of(alloc, words) {
@@ -204,6 +245,8 @@ pub fn read<'a, S: AsStr>(alloc: Global, words: &'a [S]) -> Result<Options<'a>, 
         width: matches.get_one::<u32>("width"),
         height: matches.get_one::<u32>("height"),
         profile: profile(&matches),
+        is_partial: is_given(&matches, "partial"),
+        output: output(&matches)?,
         file: matches.get_str("FILE"),
     })
 }

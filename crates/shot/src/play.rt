@@ -1,19 +1,20 @@
 //! A recording that is played to a terminal.
-ghost use Rattle.std.specs.Prelude.{◌≡◌, [], ◌∷◌, map, IfOk, OnOk};
+ghost use Rattle.std.specs.Prelude.{◌≡◌, [], ◌∷◌, map, IfOk, OnErr, OnOk};
 ghost use Rattle.std.specs.List.{prefix_len};
 ghost use Rattle.std.specs.Io.KnownBytes.{Appends};
 ghost use Rattle.cell_base.specs.Cluster.{program_width};
 ghost use Rattle.recordings.specs.EventView.{act_of, event_of};
-ghost use Rattle.shot.specs.Pictures.{picture};
 ghost use Rattle.shot.specs.Play.{events_after, is_by, step_of, steps_of, until, view_at};
+ghost use Rattle.shot.specs.Shots.{parted};
 ghost use Rattle.terminal.specs.Headline.{GoesBy, StandsAt};
+ghost use Rattle.terminal.specs.Shown.{AppendsPrefix};
 ghost use Rattle.terminal_table.specs.Meaning.{View, after};
 
 use crate::error::ShotError;
-use crate::format::{Format, picture};
+use crate::format::{Format, between, picture};
+use crate::sink::Sink;
 use recordings::{Act, Event};
 use std::alloc::Global;
-use std::io::Write;
 use terminal::{ProgramWidth, Terminal, TerminalError};
 
 /// A terminal that recordings are played to.
@@ -64,12 +65,14 @@ fn play_until<'a>(
     Ok(later)
 }
 
-/// Plays the events up to a time, and writes the screen; returns the events after that time.
-pub fn write_screen<'a, T: Write>(
+/// Plays the events up to a time, and writes the screen after `number` other ones; returns the events after that time.
+#[tactic(auto, using(crate::proofs::WriteLemmas::prefix_none))]
+pub fn write_screen<'a, T: Sink>(
     alloc: Global,
     terminal: &mut Screen,
     events: &'a [Event],
     time: u64,
+    number: u64,
     format: Format,
     writer: &mut T,
 ) -> Result<&'a [Event], ShotError>
@@ -77,13 +80,14 @@ pub fn write_screen<'a, T: Write>(
         → StandsAt terminal.new (view_at view (map event_of events.entry.now) time)) }
     ensures writes { OnOk result ((view : View) → StandsAt terminal.old view
         → Appends (T.contents writer.old) (T.contents writer.new)
-        (picture format (view_at view (map event_of events.entry.now) time).state.screen)) }
+        (parted format number (view_at view (map event_of events.entry.now) time).state.screen)) }
+    ensures part { OnErr result ((view : View) → StandsAt terminal.old view
+        → AppendsPrefix (T.contents writer.old) (T.contents writer.new)
+        (parted format number (view_at view (map event_of events.entry.now) time).state.screen)) }
     ensures rest { IfOk result (λ rest. map event_of rest.now ≡ events_after time (map event_of events.entry.now)) }
 {
     let rest = play_until(terminal, events, time)?;
     let text = picture(alloc, format, terminal.surface())?;
-    if writer.write_all(text.as_bytes()).is_err() {
-        return Err(ShotError::Write);
-    }
+    writer.write_screen(number, between(format), &text)?;
     Ok(rest)
 }

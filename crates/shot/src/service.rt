@@ -1,17 +1,20 @@
 //! The program on an input, and on its streams.
-ghost use Rattle.std.specs.Prelude.{◌≡◌, ◌≢◌, ◌⊎◌, ◌<◌, ◌≤◌, None, Some, IfOk, IfSome, OnOk};
+ghost use Rattle.std.specs.Prelude.{◌≡◌, ◌≢◌, ◌⊎◌, ◌<◌, ◌≤◌, None, Some, IfOk, IfSome, OnErr, OnOk, false};
 ghost use Rattle.std.specs.Io.KnownBytes.{Appends, Keeps};
 ghost use Rattle.clap.specs.Words.{kind_of};
 ghost use Rattle.recordings.specs.Recordings.{recording_of};
 ghost use Rattle.shot.specs.Shots.{chosen, profile_for, shots_for};
-ghost use Rattle.shot.specs.Words.{kind_in};
+ghost use Rattle.shot.specs.Sinks.{AppendsUnlessClosed};
+ghost use Rattle.shot.specs.Words.{fault_left, kind_in};
+ghost use Rattle.terminal.specs.Shown.{AppendsPrefix};
 
 use crate::error::ShotError;
 use crate::options::{BadWords, Options};
 use crate::shots::write_shots;
+use crate::sink::Sink;
 use clap::Error;
 use clap::error::ErrorKind;
-use recordings::{BadLine, Recording, Size, read_recording};
+use recordings::{BadLine, Fault, Recording, Size, read_recording};
 use std::alloc::Global;
 use std::io;
 use std::io::{Read, Write};
@@ -55,7 +58,7 @@ fn fault_of(error: ShotError) -> &'static str {
 }
 
 // Writes help or the version to `writer`, and a mistake in the words to `faults`.
-fn explain<T: Write, F: Write>(alloc: Global, error: &Error, writer: &mut T, faults: &mut F) -> u8
+fn explain<T: Sink, F: Write>(alloc: Global, error: &Error, writer: &mut T, faults: &mut F) -> u8
     ensures status { result ≤ 2 }
     ensures memory { kind_of error.now ≡ ErrorKind.OutOfMemory → result ≡ FAULT }
     ensures asked { result ≡ 0
@@ -76,14 +79,15 @@ fn explain<T: Write, F: Write>(alloc: Global, error: &Error, writer: &mut T, fau
     if error.use_stderr() {
         return refuse(faults, &[text.as_str()]);
     }
-    if write_text(writer, &[text.as_str()]).is_err() {
-        return report(faults, "cannot write");
+    let is_shown = writer.write_screen(0, "", &text).is_ok() && writer.finish().is_ok();
+    if is_shown || writer.is_closed() {
+        return 0;
     }
-    0
+    report(faults, "cannot write")
 }
 
 /// Writes why the words are refused to `faults`, or help or the version to `writer`; returns the status.
-pub fn explain_words<T: Write, F: Write>(
+pub fn explain_words<T: Sink, F: Write>(
     alloc: Global,
     words: &BadWords,
     writer: &mut T,
@@ -104,6 +108,13 @@ pub fn explain_words<T: Write, F: Write>(
 {
     match words {
         BadWords::Command(error) => explain(alloc, error, writer, faults),
+        BadWords::Output => refuse(
+            faults,
+            &[
+                "error: the value of '--output <NAME>' has no place for a number, as %04d\n\n",
+                "For more information, try '--help'.\n",
+            ],
+        ),
         BadWords::Seconds(name) => refuse(
             faults,
             &[
@@ -139,20 +150,39 @@ fn profile_for(given: Option<Profile>, has_own_term: bool) -> Profile
     }
 }
 
+// The fault that is left of a recording's under `--partial`, or without it.
+fn fault_left(is_partial: bool, fault: Option<BadLine>) -> Option<BadLine>
+    ensures { result ≡ fault_left is_partial fault }
+{
+    match fault {
+        Some(
+            BadLine {
+                fault: Fault::CutOff,
+                ..
+            },
+        ) if is_partial => None,
+        _ => fault,
+    }
+}
+
 const USUAL: Size = Size {
     width: 80,
     height: 24,
 };
 
 /// Writes the requested screens of an input, and returns the line of the input that is wrong, if one is; then it writes
-/// only the screens that no later line could have changed.
-pub fn shoot<T: Write>(
+/// only the screens that no later line could have changed, or under `--partial` all where the input is cut off. After
+/// an error a prefix of the screens' bytes is written.
+#[tactic(auto, using(crate::proofs::WriteLemmas::prefix_none))]
+pub fn shoot<T: Sink>(
     alloc: Global,
     options: Options<'_>,
     input: &[u8],
     writer: &mut T,
 ) -> Result<Option<BadLine>, ShotError>
     ensures writes { OnOk result (Appends (T.contents writer.old) (T.contents writer.new)
+        (shots_for options.entry (recording_of 80 24 input.now))) }
+    ensures part { OnErr result (AppendsPrefix (T.contents writer.old) (T.contents writer.new)
         (shots_for options.entry (recording_of 80 24 input.now))) }
     ensures fault { IfOk result (λ fault. fault ≡ (recording_of 80 24 input.now).fault) }
 {
@@ -170,26 +200,82 @@ pub fn shoot<T: Write>(
         size,
         has_own_term,
         events,
-        fault,
+        fault: fault_left(options.is_partial, fault),
     };
     let profile = profile_for(options.profile, has_own_term);
     write_shots(alloc, &recording, options.asked, profile, writer)?;
     Ok(fault)
 }
 
-// Reports which line of a file is wrong.
-fn tell_line<F: Write>(alloc: Global, name: &str, bad: BadLine, faults: &mut F) -> u8
-    ensures { result ≡ FAULT }
+// What the report of a wrong line says besides: what `--partial` does, or can do.
+fn hint_of(fault: Fault, is_partial: bool) -> &'static str {
+    match fault {
+        Fault::CutOff if is_partial => "; what came before is shown",
+        Fault::CutOff => "; --partial shows what came before",
+        _ => "",
+    }
+}
+
+// Reports which line of a file is wrong, and returns the status, 0 where no fault is left under `--partial`.
+fn tell_line<F: Write>(
+    alloc: Global,
+    name: &str,
+    bad: BadLine,
+    is_partial: bool,
+    faults: &mut F,
+) -> u8
+    ensures status { result ≤ 1 }
+    ensures left { result ≡ 0 → fault_left is_partial (Some bad) ≡ None }
 {
     let BadLine { line, fault } = bad;
-    match format!(in alloc; "{name}:{line}: {fault}") {
+    let hint = hint_of(fault, is_partial);
+    match format!(in alloc; "{name}:{line}: {fault}{hint}") {
+        Ok(text) => {
+            let status = report(faults, &text);
+            match fault_left(is_partial, Some(bad)) {
+                Some(_) => status,
+                None => 0,
+            }
+        }
+        Err(_) => report(faults, "out of memory"),
+    }
+}
+
+// Reports that a file, or a stream without a name, can't be written.
+fn tell_write<F: Write>(alloc: Global, file: &str, faults: &mut F) -> u8
+    ensures { result ≡ FAULT }
+{
+    if file.is_empty() {
+        return report(faults, "cannot write");
+    }
+    match format!(in alloc; "{file}: cannot write") {
         Ok(text) => report(faults, &text),
         Err(_) => report(faults, "out of memory"),
     }
 }
 
+// Writes the requested screens of an input, and hands them on.
+#[tactic(auto, using(crate::proofs::WriteLemmas::prefix_all, terminal::proofs::AppendLemmas::appends_kept))]
+fn show<T: Sink>(
+    alloc: Global,
+    options: Options<'_>,
+    input: &[u8],
+    writer: &mut T,
+) -> Result<Option<BadLine>, ShotError>
+    ensures writes { OnOk result (Appends (T.contents writer.old) (T.contents writer.new)
+        (shots_for options.entry (recording_of 80 24 input.now))) }
+    ensures part { OnErr result (AppendsPrefix (T.contents writer.old) (T.contents writer.new)
+        (shots_for options.entry (recording_of 80 24 input.now))) }
+    ensures fault { IfOk result (λ fault. fault ≡ (recording_of 80 24 input.now).fault) }
+{
+    let fault = shoot(alloc, options, input, writer)?;
+    writer.finish()?;
+    Ok(fault)
+}
+
 // Writes the requested screens of an input that was read.
-fn answer<T: Write, F: Write>(
+#[tactic(auto, using(crate::proofs::WriteLemmas::written_unless_closed, crate::proofs::WriteLemmas::part_if_closed))]
+fn answer<T: Sink, F: Write>(
     alloc: Global,
     options: Options<'_>,
     name: &str,
@@ -197,27 +283,32 @@ fn answer<T: Write, F: Write>(
     writer: &mut T,
     faults: &mut F,
 ) -> u8
+    requires { T.is_closed writer.old ≡ false }
     ensures status { result ≤ 1 }
-    ensures quiet { result ≡ 0 → Keeps (F.contents faults.old) (F.contents faults.new) }
-    ensures whole { result ≡ 0 → (recording_of 80 24 input.now).fault ≡ None }
-    ensures shows { result ≡ 0 → Appends (T.contents writer.old) (T.contents writer.new)
+    ensures quiet { result ≡ 0 → options.entry.is_partial ≡ false
+        → Keeps (F.contents faults.old) (F.contents faults.new) }
+    ensures untold { result ≡ 0 → (recording_of 80 24 input.now).fault ≡ None
+        → Keeps (F.contents faults.old) (F.contents faults.new) }
+    ensures whole { result ≡ 0 → T.is_closed writer.new ≡ false
+        → fault_left options.entry.is_partial (recording_of 80 24 input.now).fault ≡ None }
+    ensures shows { result ≡ 0
+        → AppendsUnlessClosed (T.is_closed writer.new) (T.contents writer.old) (T.contents writer.new)
         (shots_for options.entry (recording_of 80 24 input.now)) }
 {
-    match shoot(alloc, options, input, writer) {
-        Ok(Some(bad)) => {
-            let _ = writer.flush();
-            tell_line(alloc, name, bad, faults)
-        }
-        Ok(None) if writer.flush().is_ok() => 0,
-        Ok(None) => report(faults, "cannot write"),
+    match show(alloc, options, input, writer) {
+        Ok(None) => 0,
+        Ok(Some(bad)) => tell_line(alloc, name, bad, options.is_partial, faults),
+        Err(ShotError::Write) if writer.is_closed() => 0,
+        Err(ShotError::Write) => tell_write(alloc, writer.file(), faults),
         Err(error) => report(faults, fault_of(error)),
     }
 }
 
-/// Reads the input `name` to its end, and writes the requested screens of it. It returns the status: 0; or 1 with one
-/// line on `faults`, where the input can't be read or a line of it is wrong, or where writing or memory failed; the
-/// output written before that stays.
-pub fn serve<R: Read, T: Write, F: Write>(
+/// Reads the input `name` to its end, and writes the requested screens of it. It returns the status: 0, under
+/// `--partial` with one line on `faults` where the input is cut off; or 1 with one line on `faults`, where the input
+/// can't be read or a line of it is wrong, or where writing or memory failed; the output written before that stays.
+/// Where nobody reads the output any more, that is no fault.
+pub fn serve<R: Read, T: Sink, F: Write>(
     alloc: Global,
     options: Options<'_>,
     name: &str,
@@ -225,12 +316,20 @@ pub fn serve<R: Read, T: Write, F: Write>(
     writer: &mut T,
     faults: &mut F,
 ) -> u8
+    requires { T.is_closed writer.old ≡ false }
     ensures status { result ≤ 1 }
-    ensures quiet { result ≡ 0 → Keeps (F.contents faults.old) (F.contents faults.new) }
-    ensures whole { result ≡ 0 → IfSome (R.remaining reader.old) (λ input. (recording_of 80 24 input).fault ≡ None) }
+    // Status 0 is quiet, except under `--partial` where a line is wrong.
+    ensures quiet { result ≡ 0 → options.entry.is_partial ≡ false
+        → Keeps (F.contents faults.old) (F.contents faults.new) }
+    ensures untold { result ≡ 0
+        → IfSome (R.remaining reader.old)
+        (λ input. (recording_of 80 24 input).fault ≡ None → Keeps (F.contents faults.old) (F.contents faults.new)) }
+    ensures whole { result ≡ 0 → T.is_closed writer.new ≡ false
+        → IfSome (R.remaining reader.old)
+        (λ input. fault_left options.entry.is_partial (recording_of 80 24 input).fault ≡ None) }
     ensures shows { result ≡ 0
         → IfSome (R.remaining reader.old)
-        (λ input. Appends (T.contents writer.old) (T.contents writer.new)
+        (λ input. AppendsUnlessClosed (T.is_closed writer.new) (T.contents writer.old) (T.contents writer.new)
         (shots_for options.entry (recording_of 80 24 input))) }
 {
     let mut input = Vec::new(alloc);

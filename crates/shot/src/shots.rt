@@ -1,19 +1,20 @@
 //! The screens of a recording.
-ghost use Rattle.std.specs.Prelude.{◌≡◌, ◌<◌, ◌≤◌, ◌*◌, ◌^◌, [], ◌∷◌, map, IfOk, OnOk};
+ghost use Rattle.std.specs.Prelude.{◌≡◌, ◌<◌, ◌≤◌, ◌*◌, ◌^◌, [], ◌∷◌, ℕ, List, map, IfOk, OnErr, OnOk};
 ghost use Rattle.std.specs.Io.KnownBytes.{Appends};
 ghost use Rattle.recordings.specs.EventView.{event_of};
 ghost use Rattle.recordings.specs.RecordingView.{recording_value};
-ghost use Rattle.shot.specs.Shots.{count_below, last_time, multiples, pictures, shots, times_of};
+ghost use Rattle.shot.specs.Shots.{count_below, last_time, multiples, pictures, shots, times_after, times_of};
 ghost use Rattle.shot.specs.Writing.{IsWriting};
 ghost use Rattle.terminal.specs.Headline.{StandsAt};
+ghost use Rattle.terminal.specs.Shown.{AppendsPrefix};
 ghost use Rattle.terminal_table.specs.Meaning.{View};
 
 use crate::error::ShotError;
 use crate::format::Format;
 use crate::play::{Screen, write_screen};
+use crate::sink::Sink;
 use recordings::{Event, Recording};
 use std::alloc::Global;
-use std::io::Write;
 use terminal::{Profile, ProgramWidth, Terminal};
 
 // The time of the last event, or 0.
@@ -38,7 +39,7 @@ fn count_below(step: u64, time: u64) -> u64
 }
 
 // Writes the screens at `count` times, each a step after the one before it; returns the events after the last one.
-fn write_steps<'a, T: Write>(
+fn write_steps<'a, T: Sink>(
     alloc: Global,
     terminal: &mut Screen,
     events: &'a [Event],
@@ -48,24 +49,29 @@ fn write_steps<'a, T: Write>(
     writer: &mut T,
 ) -> Result<&'a [Event], ShotError>
     requires { count * step < 2 ^ 64 }
-    ensures { IfOk result
+    ensures writes { IfOk result
         (λ rest. (view : View) → StandsAt terminal.old view
         → IsWriting format view (map event_of events.entry.now) step count terminal.new (map event_of rest.now)
-        (count * step) 0 (T.contents writer.old) (T.contents writer.new)) }
+        (count * step) count 0 (T.contents writer.old) (T.contents writer.new)) }
+    ensures part { OnErr result ((view : View) → StandsAt terminal.old view → (remaining : List ℕ)
+        → AppendsPrefix (T.contents writer.old) (T.contents writer.new)
+        (pictures format view (map event_of events.entry.now) (times_after 0 step count remaining))) }
 {
     let mut rest = events;
     let mut time = 0;
+    let mut number = 0;
     let mut left = count;
     while left > 0 {
         left -= 1;
         time += step;
-        rest = write_screen(alloc, terminal, rest, time, format, writer)?;
+        rest = write_screen(alloc, terminal, rest, time, number, format, writer)?;
+        number += 1;
     }
     Ok(rest)
 }
 
 // Writes the screens at the multiples of a step below the end, and at the end.
-fn write_whole<T: Write>(
+fn write_whole<T: Sink>(
     alloc: Global,
     terminal: &mut Screen,
     events: &[Event],
@@ -74,18 +80,21 @@ fn write_whole<T: Write>(
     format: Format,
     writer: &mut T,
 ) -> Result<(), ShotError>
-    ensures { OnOk result ((view : View) → StandsAt terminal.old view
+    ensures writes { OnOk result ((view : View) → StandsAt terminal.old view
         → Appends (T.contents writer.old) (T.contents writer.new)
+        (pictures format view (map event_of events.now) (multiples step end (end ∷ [])))) }
+    ensures part { OnErr result ((view : View) → StandsAt terminal.old view
+        → AppendsPrefix (T.contents writer.old) (T.contents writer.new)
         (pictures format view (map event_of events.now) (multiples step end (end ∷ [])))) }
 {
     let count = count_below(step, end);
     let rest = write_steps(alloc, terminal, events, step, count, format, writer)?;
-    write_screen(alloc, terminal, rest, end, format, writer)?;
+    write_screen(alloc, terminal, rest, end, count, format, writer)?;
     Ok(())
 }
 
 // Writes the screens at the multiples of a step below the end.
-fn write_part<T: Write>(
+fn write_part<T: Sink>(
     alloc: Global,
     terminal: &mut Screen,
     events: &[Event],
@@ -94,8 +103,11 @@ fn write_part<T: Write>(
     format: Format,
     writer: &mut T,
 ) -> Result<(), ShotError>
-    ensures { OnOk result ((view : View) → StandsAt terminal.old view
+    ensures writes { OnOk result ((view : View) → StandsAt terminal.old view
         → Appends (T.contents writer.old) (T.contents writer.new)
+        (pictures format view (map event_of events.now) (multiples step end []))) }
+    ensures part { OnErr result ((view : View) → StandsAt terminal.old view
+        → AppendsPrefix (T.contents writer.old) (T.contents writer.new)
         (pictures format view (map event_of events.now) (multiples step end []))) }
 {
     let count = count_below(step, end);
@@ -115,16 +127,21 @@ pub struct Shots {
 }
 
 // Writes the requested screens of a recording, which is played to a new terminal.
-fn write_by<T: Write>(
+fn write_by<T: Sink>(
     alloc: Global,
     terminal: &mut Screen,
     recording: &Recording,
     asked: Shots,
     writer: &mut T,
 ) -> Result<(), ShotError>
-    ensures { OnOk result
+    ensures writes { OnOk result
         ((view : View) → StandsAt terminal.old view
         → Appends (T.contents writer.old) (T.contents writer.new)
+        (pictures asked.format view (recording_value recording.now).events
+        (times_of asked.at asked.step (recording_value recording.now)))) }
+    ensures part { OnErr result
+        ((view : View) → StandsAt terminal.old view
+        → AppendsPrefix (T.contents writer.old) (T.contents writer.new)
         (pictures asked.format view (recording_value recording.now).events
         (times_of asked.at asked.step (recording_value recording.now)))) }
 {
@@ -158,15 +175,18 @@ fn write_by<T: Write>(
 /// Plays a recording to a new terminal of its size and of a profile, and writes the screen at the requested time, as it
 /// is after all events at that time or before it; and before that the screens at each multiple of the step below that
 /// time. The terminal takes a look for each screen, in order. Of a recording with a line that is wrong only the screens
-/// are written that no later event could change.
-pub fn write_shots<T: Write>(
+/// are written that no later event could change. After an error a prefix of the screens' bytes is written.
+#[tactic(auto, using(crate::proofs::WriteLemmas::prefix_none))]
+pub fn write_shots<T: Sink>(
     alloc: Global,
     recording: &Recording,
     asked: Shots,
     profile: Profile,
     writer: &mut T,
 ) -> Result<(), ShotError>
-    ensures { OnOk result (Appends (T.contents writer.old) (T.contents writer.new)
+    ensures writes { OnOk result (Appends (T.contents writer.old) (T.contents writer.new)
+        (shots asked.format asked.at asked.step profile (recording_value recording.now))) }
+    ensures part { OnErr result (AppendsPrefix (T.contents writer.old) (T.contents writer.new)
         (shots asked.format asked.at asked.step profile (recording_value recording.now))) }
 {
     let size = recording.size;

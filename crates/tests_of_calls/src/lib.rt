@@ -27,7 +27,7 @@
 //!   that have failed.
 //! - `positions`: positions in a list of parameters: copied, and taken to another list.
 //! - `prefixes`: copies of the control sequence at the start of some bytes.
-//! - `recorded`: small recordings of both versions, whole, torn and wrong; and a large one; and times.
+//! - `recorded`: small recordings of each version, whole, torn and wrong; and a large one; and times.
 //! - `renderings`: the bytes that are written for a change.
 //! - `scripts`: random scripts of changes on a small surface, against a plain program that draws them column
 //!   by column.

@@ -1,4 +1,4 @@
-//! Small recordings of both versions, whole, torn and wrong; and a large one; and times.
+//! Small recordings of each version, whole, torn and wrong; and a large one; and times.
 use recordings::{Act, Event, Recording, Size, read_recording, time_of};
 use std::alloc::{AllocError, Global};
 use std::process::Abort;
@@ -64,8 +64,23 @@ const THIRD: &str = r##"{"version": 3, "term": {"cols": 80, "rows": 24, "type": 
 [1e-05, "o", "b"]
 "##;
 
+const FIRST: &str = r#"{
+  "version": 1, "width": 80, "height": 24, "duration": 1.5, "title": null, "env": {"TERM": "rilqamyn"},
+  "stdout": [
+    [0.25, "a\u001b[1m"],
+    [1.2500019, "é\n"]
+  ]
+}
+"#;
+
 #[test]
-fn reads_both_versions(rt: HostRuntime) {
+fn reads_each_version(rt: HostRuntime) {
+    assert_reads(
+        &rt,
+        FIRST,
+        "80x24\n250000 writes a\u{1b}[1m\n1500001 writes é\n\n",
+    );
+    assert!(rt; read(&rt, FIRST.as_bytes()).has_own_term);
     assert_reads(
         &rt,
         SECOND,
@@ -91,6 +106,11 @@ fn assert_wrong<R: Abort + AllocGlobal>(rt: &R, line: &str, fault: &str) {
 #[test]
 fn tells_what_is_wrong(rt: HostRuntime) {
     assert_wrong(&rt, "[2,", "not a line of JSON");
+    assert_reads(
+        &rt,
+        "{\"version\":2,\"width\":1,\"height\":2}\n[1,\"o\",\"\"]\n[2,",
+        "1x2\n1000000 writes \n3: cut off\n",
+    );
     assert_wrong(
         &rt,
         "[-2,\"o\",\"\"]",
@@ -112,12 +132,43 @@ fn tells_what_is_wrong_with_a_header(rt: HostRuntime) {
     for header in [
         r#"{"version":2,"width":4097,"height":2}"#,
         r#"{"version":3,"width":1,"height":2}"#,
+        r#"{"version":1,"height":2,"stdout":[]}"#,
     ] {
         let wanted = format!(in rt.alloc(); "9x2\n1: {size}\n").expect(&rt, "memory");
         assert_reads(&rt, header, &wanted);
     }
-    let version = "9x2\n1: a version of asciicast that is neither 2 nor 3\n";
-    assert_reads(&rt, r#"{"version":1}"#, version);
+    let version = "9x2\n1: a version of asciicast that is not 1, 2 or 3\n";
+    assert_reads(&rt, r#"{"version":4}"#, version);
+}
+
+// The events of a recording of version 1 have this fault, which has what was read before it.
+fn assert_wrong_first<R: Abort + AllocGlobal>(rt: &R, events: &str, read: &str) {
+    let header = r#"{"version":1,"width":1,"height":2"#;
+    let input = format!(in rt.alloc(); "{header}{events}}}").expect(rt, "memory");
+    let wanted = format!(in rt.alloc(); "1x2\n{read}\n").expect(rt, "memory");
+    assert_reads(rt, &input, &wanted);
+}
+
+#[test]
+fn tells_what_is_wrong_with_version_one(rt: HostRuntime) {
+    let list = "1: a recording of version 1 without a list of outputs";
+    assert_wrong_first(&rt, "", list);
+    assert_wrong_first(&rt, ",\"stdout\":{}", list);
+    assert_wrong_first(
+        &rt,
+        ",\"stdout\":[[1,\"a\"],[2]]",
+        "1000000 writes a\n1: an output without a text",
+    );
+    assert_wrong_first(
+        &rt,
+        ",\"stdout\":[[\"a\"]]",
+        "1: not an event: a list that begins with a number of seconds from 0 on",
+    );
+    assert_reads(
+        &rt,
+        "{\"version\":1,\"width\":1,\"height\":2,\"stdout\":[]}\n[]",
+        "9x2\n1: a recording of version 1, but not one object alone\n",
+    );
 }
 
 // How many lines of a text are whole, and whether it ends in one that isn't.
