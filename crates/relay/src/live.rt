@@ -17,7 +17,8 @@ enum Stage {
 /// Gives a piece at each read, and fails at a read before the update of the last piece was flushed.
 #[derive(Drop)]
 struct Pieces<'a> {
-    left: &'a [&'static [u8]],
+    pieces: &'a [&'static [u8]],
+    next: usize,
     stage: &'a Cell<Stage>,
 }
 
@@ -26,10 +27,10 @@ impl Read for Pieces<'_> {
         if self.stage.get() != Stage::Sent {
             return Err(io::Error::from(ErrorKind::Other));
         }
-        let Some((piece, left)) = self.left.split_first() else {
+        let Some(piece) = self.pieces.get(self.next) else {
             return Ok(0);
         };
-        self.left = left;
+        self.next += 1;
         let mut bytes = *piece;
         if !bytes.is_empty() {
             self.stage.set(Stage::Read);
@@ -61,7 +62,7 @@ impl Write for Sent<'_> {
             return Err(io::Error::from(ErrorKind::Other));
         }
         self.stage.set(Stage::Sent);
-        self.flushes += 1;
+        self.flushes = self.flushes.wrapping_add(1);
         Ok(())
     }
 }
@@ -81,7 +82,8 @@ const FIRST: usize = BOTH.len() - 2;
 fn assert_sent<R: Abort + AllocGlobal>(rt: &R, pieces: &[&'static [u8]], expected: &[u8]) {
     let stage = Cell::new(Stage::Sent);
     let mut input = Pieces {
-        left: pieces,
+        pieces,
+        next: 0,
         stage: &stage,
     };
     let mut output = Sent {
