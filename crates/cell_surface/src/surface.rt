@@ -119,6 +119,13 @@ impl<W: Widths + Drop> Surface<W> {
         self.grid.title()
     }
 
+    /// How many columns texts take.
+    pub fn widths(&self) -> &W
+        ensures { result.now ≡ self.now.grid.widths }
+    {
+        self.grid.widths()
+    }
+
     /// The attributes that the next text gets.
     pub fn pen(&self) -> &CellAttributes
         ensures { result.now ≡ (shown_by self.now).screen.pen }

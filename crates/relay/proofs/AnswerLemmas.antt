@@ -84,6 +84,6 @@ memory_first asked (Some x) =
     let start = first_standing asked in
     record {
       part = record { read = []; rest = x; whole = refl; remaining = refl };
-      why = inr (subst (λ h. (standing_after program_width start h).log.log.number < 2 ^ 64) (sym (no_history asked.is_show asked.every))
-          (subst (λ n. n < 2 ^ 64) (sym (quiet_look program_width start refl)) (omega arith)));
+      why = inr (inr (subst (λ h. (standing_after program_width start h).log.log.number < 2 ^ 64) (sym (no_history asked.is_show asked.every))
+          (subst (λ n. n < 2 ^ 64) (sym (quiet_look program_width start refl)) (omega arith))));
     }

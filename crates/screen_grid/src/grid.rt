@@ -115,6 +115,13 @@ impl<W: Widths + Drop> Grid<W> {
         self.shape
     }
 
+    /// How many columns texts take.
+    pub fn widths(&self) -> &W
+        ensures { result.now ≡ self.now.widths }
+    {
+        &self.widths
+    }
+
     /// The attributes that the next text gets.
     pub fn pen(&self) -> &CellAttributes
         ensures { result.now ≡ self.now.pen }

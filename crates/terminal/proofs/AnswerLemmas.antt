@@ -1,5 +1,5 @@
 -- A terminal that forgets changes and drops replies that nobody reads answers as one that keeps all.
-use Rattle.std.proofs.Common.{◌≡◌, ℕ, ◌<◌, ◌≤◌, ◌^◌, ◌⊎◌, inl, inr, false, List, [], ◌∷◌, ◌++◌, length, map, fold, sym, ap, subst, ◌∙◌, arith, Option}
+use Rattle.std.proofs.Common.{◌≡◌, ℕ, ◌<◌, ◌≤◌, ◌^◌, ◌⊎◌, inl, inr, Bool, true, false, List, [], ◌∷◌, ◌++◌, length, map, fold, refl, sym, ap, subst, ◌∙◌, arith, Option}
 use Rattle.std.specs.Prelude.{◌==◌, if◌then◌else◌}
 use Rattle.std.specs.Io.KnownBytes.{Appends}
 use Rattle.cell_base.specs.Screen.{Screen, height}
@@ -10,18 +10,18 @@ use Rattle.escape_stream.specs.StreamActions.{actions_of}
 use Rattle.terminal.specs.Fed.{AnswersAt}
 use Rattle.terminal.specs.Written.{IsAt, IsCounted, Lightens, UpdateWritten, looked, lightened, update_at}
 use Rattle.terminal.specs.Shown.{AppendsPrefix}
-use Rattle.terminal.specs.Headline.{StandsAt, GoesBy, final_log}
-use Rattle.terminal.specs.Refusals.{FeedTakesMemory, HasNumbers, NeedsMemory, NeedsNumber}
+use Rattle.terminal.specs.Headline.{StandsAt, GoesBy}
+use Rattle.terminal.specs.Refusals.{FeedTakesMemory, HasNumbersToLook, LookTakesMemory, NeedsMemory, NeedsNumber}
 use Rattle.terminal.specs.Terminal.{Terminal, state_in}
 use Rattle.terminal.proofs.GoLemmas.{actions_join, stays}
-use Rattle.terminal.proofs.MemoryLemmas.{feed_alike}
+use Rattle.terminal.proofs.MemoryLemmas.{feed_alike, look_alike}
 use Rattle.terminal_render.specs.Lists.{all_rendered}
 use Rattle.terminal_steps.proofs.NumberLemmas.{fold_number}
 use Rattle.terminal_steps.proofs.SpellLemmas.{none_newly}
-use Rattle.terminal_table.specs.Changes.{run_change}
 use Rattle.terminal_table.specs.History.{History, Piece, Look, Forget, Act, Looked}
 use Rattle.terminal_table.specs.Logged.{events_logged, logged, log_after}
-use Rattle.terminal_table.specs.Meaning.{View, after}
+use Rattle.terminal_table.specs.Meaning.{after}
+use Rattle.terminal_table.specs.Runs.{run_changes_of}
 use Rattle.terminal_viewers.specs.Update.{bytes_of, painted_anew, update_of}
 use Rattle.terminal_viewers.specs.Updates.{Standing, standing_after}
 use Rattle.terminal_viewers.specs.Viewers.{AnswersAs, AreFed}
@@ -56,11 +56,6 @@ module _ {W : Type 0} (width_of : W → List ℕ → ℕ) (w : W) where
     stands = subst (λ x. StandsAt u (after (width_of x) s.view h)) e (g.stands s.view at.stands);
     log = g.log s.view at.stands ∙ (λ i. log_after (width_of (e i)) s.view (at.log i) h);
   }
-
-  -- a property of the number after a history, true at each view of the terminal, is true at its standing
-  numbers_at : (P : ℕ → Type 0) (t : Terminal W) (s : Standing) (h : History) → t.surface.grid.widths ≡ w → IsAt t s → ((view : View) → StandsAt t view → P (final_log width_of t view h).log.number)
-      → P (standing_after f s h).log.log.number
-  numbers_at P t s h e at n = subst (λ (x : Sized). P x.log.number) (λ i. log_after (width_of (e i)) s.view (at.log i) h) (n s.view at.stands)
 
   -- the standing of a terminal that has forgotten changes, and dropped its replies
   pub lightened_at : (t v : Terminal W) (s : Standing) (number : ℕ) → t.surface.grid.widths ≡ w → IsAt t s → Lightens width_of t v number → IsAt v (lightened f number s)
@@ -135,17 +130,26 @@ module _ {W : Type 0} (width_of : W → List ℕ → ℕ) (w : W) where
   pub number_there : (number : ℕ) (t : Terminal W) (whole : Standing) → AnswersAt number t whole → number_of t.surface ≡ whole.log.log.number
   number_there number t whole a = ap (λ (x : Sized). x.log.number) a.at.log ∙ a.answers.logs.count
 
-  numbers_there : (P : ℕ → Type 0) (number : ℕ) (t : Terminal W) (whole : Standing) (h : History) → AreFed h → t.surface.grid.widths ≡ w → AnswersAt number t whole
-      → ((view : View) → StandsAt t view → P (final_log width_of t view h).log.number) → P (standing_after f whole h).log.log.number
-  numbers_there P number t whole h fed e a n = subst P (answers_after f number a.kept whole h fed a.answers).logs.count (numbers_at P t a.kept h e a.at n)
-
   -- where it is refused a number, so is the one that keeps all
   pub needs_there : (number : ℕ) (t : Terminal W) (whole : Standing) (h : History) → AreFed h → t.surface.grid.widths ≡ w → AnswersAt number t whole → NeedsNumber width_of t h → 2 ^ 64 ≤ (standing_after f whole h).log.log.number
-  needs_there number t whole h fed e a n = numbers_there (λ m. 2 ^ 64 ≤ m) number t whole h fed e a n
+  needs_there number t whole h fed e a n =
+      subst (λ m. 2 ^ 64 ≤ m) (answers_after f number a.kept whole h fed a.answers).logs.count
+      (subst (λ (x : Sized). 2 ^ 64 ≤ x.log.number) (λ i. log_after (width_of (e i)) a.kept.view (a.at.log i) h) (n a.kept.view a.at.stands))
 
-  -- where it has numbers, so has that one
-  pub fits_there : (number : ℕ) (t : Terminal W) (whole : Standing) (h : History) → AreFed h → t.surface.grid.widths ≡ w → AnswersAt number t whole → HasNumbers width_of t h → (standing_after f whole h).log.log.number < 2 ^ 64
-  fits_there number t whole h fed e a n = numbers_there (λ m. m < 2 ^ 64) number t whole h fed e a n
+  -- where it has numbers for a look, or is refused memory for it, so is that one
+  pub looks_there : (number : ℕ) (t : Terminal W) (failed : Bool) (whole : Standing) → t.surface.grid.widths ≡ w → AnswersAt number t whole → HasNumbersToLook width_of t failed
+      → ((standing_after f whole (Look ∷ [])).log.log.number < 2 ^ 64) ⊎ LookTakesMemory f whole true
+  looks_there number t failed whole e a n =
+      by_way (subst (λ (T : Type 0). T)
+      (λ i. ((log_after (width_of (e i)) a.kept.view (a.at.log i) (Look ∷ [])).log.number < 2 ^ 64) ⊎ LookTakesMemory (width_of (e i)) (record { view = a.kept.view; log = a.at.log i }) failed)
+      (n a.kept.view a.at.stands))
+    where
+      taken : LookTakesMemory f a.kept failed → LookTakesMemory f a.kept true
+      taken takes = (takes.0, (takes.1.0, takes.1.1, refl))
+
+      by_way : ((standing_after f a.kept (Look ∷ [])).log.log.number < 2 ^ 64) ⊎ LookTakesMemory f a.kept failed → ((standing_after f whole (Look ∷ [])).log.log.number < 2 ^ 64) ⊎ LookTakesMemory f whole true
+      by_way (inl fits) = inl (subst (λ m. m < 2 ^ 64) (answers_after f number a.kept whole (Look ∷ []) tt a.answers).logs.count fits)
+      by_way (inr takes) = inr (look_alike f number a.kept whole true a.answers (taken takes))
 
   -- where bytes take memory, they do so for that one
   pub takes_there : (number : ℕ) (t u : Terminal W) (whole : Standing) (bytes : List ℕ) → t.surface.grid.widths ≡ w → AnswersAt number t whole → NeedsMemory width_of t bytes u → FeedTakesMemory f whole bytes u.surface.is_failed
@@ -157,4 +161,4 @@ module _ {W : Type 0} (width_of : W → List ℕ → ℕ) (w : W) where
 pub quiet_look : (f : List ℕ → ℕ) (s : Standing) → s.view.held ≡ [] → (standing_after f s (Piece [] ∷ Look ∷ [])).log.log.number ≡ s.log.log.number
 quiet_look f s none =
     ap (λ (ds : List Dispatch). (fold step_of_kept s.log (events_logged f s.view (map Act (actions_of ds) ++ (Looked ∷ [])))).log.number) (none_newly s.view.stream)
-    ∙ ap (λ (held : List ℕ). (fold step_of_kept s.log ((if length held == 0 then [] else Logged (run_change held) ∷ []) ++ [])).log.number) none
+    ∙ ap (λ (held : List ℕ). (fold step_of_kept s.log ((if length held == 0 then [] else map Logged (run_changes_of f held s.view.state)) ++ [])).log.number) none

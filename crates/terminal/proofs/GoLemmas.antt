@@ -1,10 +1,11 @@
 -- Terminals that go on by histories.
-use Rattle.std.proofs.Common.{◌≡◌, ℕ, ◌+◌, ◌<◌, ◌≤◌, ◌^◌, Bool, true, false, List, [], ◌∷◌, ◌++◌, length, map, fold, inl, inr, refl, sym, ap, subst, ◌∙◌, arith}
-use Rattle.std.specs.Prelude.{◌⊎◌, ◌==◌, if◌then◌else◌}
+use Rattle.std.proofs.Common.{◌≡◌, ◌≢◌, ℕ, ◌+◌, ◌<◌, ◌≤◌, ◌^◌, Bool, true, false, List, [], ◌∷◌, ◌++◌, length, map, fold, inl, inr, refl, sym, ap, subst, ◌∙◌, arith}
+use Rattle.std.specs.Prelude.{◌⊎◌, ◌==◌, Option, Some, None, if◌then◌else◌}
 use Rattle.std.specs.String.{string_bytes}
 use Rattle.std.proofs.lemmas.Grind.{flat_map-append}
 use Rattle.std.proofs.lemmas.List.Sums.{fold-append}
 use Rattle.std.proofs.lemmas.Str.{IsUtf8-string_bytes}
+use Rattle.cell_base.specs.Screen.{Screen}
 use Rattle.screen_log.specs.LogSteps.{LogStep, Logged, Sized, step_of_kept}
 use Rattle.escape_framing.specs.Framed.{IsReached}
 use Rattle.escape_framing.specs.Cut.{newly_decided}
@@ -15,7 +16,7 @@ use Rattle.escape_stream.specs.Items.{Item, items, items_of}
 use Rattle.escape_stream.specs.StreamActions.{actions_of_dispatch, actions_of}
 use Rattle.escape_stream.proofs.SpellLemmas.{pieces_spell}
 use Rattle.terminal.specs.Headline.{StandsAt, GoesBy}
-use Rattle.terminal.specs.Refusals.{HasNumbers, NeedsNumber}
+use Rattle.terminal.specs.Refusals.{HasNumbersToLook, NeedsNumber}
 use Rattle.terminal.specs.Terminal.{Terminal}
 use Rattle.terminal_steps.specs.Events as steps
 use Rattle.terminal_steps.specs.Events.{IsReady, Had, view_of}
@@ -23,12 +24,15 @@ use Rattle.terminal_steps.specs.Memory.{TakesMemory}
 use Rattle.terminal_steps.specs.ProfileView.{kept_modes}
 use Rattle.terminal_steps.specs.Items.{item_event, item_events, log_after_items, Leads, ParserNeedsMemory, SomeNeedsMemory}
 use Rattle.terminal_steps.specs.declared.state.TerminalState.{TerminalState}
+use Rattle.xterm_steps.specs.Additions.{IsChangeRefused}
 use Rattle.terminal_steps.proofs.SpellLemmas.{call_state, call_held, call_logged, call_events, none_newly}
 use Rattle.terminal_table.specs.Changes.{run_change}
 use Rattle.terminal_table.specs.History.{History, Piece, Look, Resize, Forget, Event, Act, Looked, Resized, Forgot}
 use Rattle.terminal_table.specs.History as table
-use Rattle.terminal_table.specs.Logged.{events_logged, logged, log_after}
+use Rattle.terminal_table.specs.Logged.{events_logged, logged, log_after, run_logged}
 use Rattle.terminal_table.specs.Meaning.{View, event_done, after}
+use Rattle.terminal_table.specs.Modes.{Modes}
+use Rattle.terminal_table.specs.Runs.{run_changes}
 use Rattle.terminal_table.specs.Turns.{IsView, AreEvents}
 use Rattle.terminal_table.proofs.JoinLemmas.{with_stream, all_done_with, logged_with, after_joins, logged_joins, PiecesJoin, cut_after, cut_logged, nothing_after}
 
@@ -58,6 +62,22 @@ pieced bytes f view = record {
   run = call_held newly_join pieces_spell f view bytes;
   logged = call_logged newly_join pieces_spell f view bytes;
 }
+
+-- ---- a look that is refused memory
+
+-- what is logged for a held run
+abbrev ended : Option Modes → (List ℕ → ℕ) → Screen → List ℕ → List LogStep
+ended modes f screen held = if length held == 0 then [] else map Logged (run_changes modes f screen held)
+
+-- on a plain terminal its one change has a number
+pub refused_look : (modes : Option Modes) (f : List ℕ → ℕ) (screen : Screen) (held : List ℕ) (log : Sized) (failed : Bool) → IsChangeRefused (ended modes f screen held) log.log.number failed
+    → ((fold step_of_kept log (ended modes f screen held ++ [])).log.number < 2 ^ 64) ⊎ ((modes ≢ None) × IsChangeRefused (ended modes f screen held) log.log.number true)
+refused_look None f screen held log failed refused = inl (by_test (length held == 0))
+  where
+    by_test : (b : Bool) → (fold step_of_kept log ((if b then [] else Logged (run_change held) ∷ []) ++ [])).log.number < 2 ^ 64
+    by_test true = let next = refused.1 in omega (arith, next)
+    by_test false = refused.1
+refused_look (Some modes) f screen held log failed refused = inr ((λ (e : Some modes ≡ None). absurd cc), (refused.0, refused.1, refl))
 
 -- ---- a terminal by its parts
 
@@ -123,22 +143,19 @@ module _ {W : Type 0} (width_of : W → List ℕ → ℕ) where
 
   -- ---- a look
 
-  look_at : (s : TerminalState W) → List ℕ → Sized
-  look_at s held = fold step_of_kept s.surface.log ((if length held == 0 then [] else Logged (run_change held) ∷ []) ++ [])
-
   -- there are numbers for it
-  pub look_has : (s : TerminalState W) (u : Held) (now : Terminal W) → with_parts s u ≡ now → (steps.final_log width_of s (Looked ∷ [])).log.number < 2 ^ 64 → HasNumbers width_of now (Look ∷ [])
-  unfolding look_at
-  look_has s u now same fits =
-      subst (λ t. HasNumbers width_of t (Look ∷ [])) same (λ view st. subst (λ held. (look_at s held).log.number < 2 ^ 64) st.run fits)
+  pub look_has : (s : TerminalState W) (u : Held) (now : Terminal W) (failed : Bool) → with_parts s u ≡ now → (steps.final_log width_of s (Looked ∷ [])).log.number < 2 ^ 64 → HasNumbersToLook width_of now failed
+  look_has s u now failed same fits =
+      subst (λ t. HasNumbersToLook width_of t failed) same
+      (λ view st. inl (subst (λ (v : View). (fold step_of_kept s.surface.log (run_logged (width_of s.surface.grid.widths) v ++ [])).log.number < 2 ^ 64) (same_view s u view st) fits))
 
-  -- so it is where there is one for a run
-  pub next_has : (s : TerminalState W) (u : Held) (now : Terminal W) → with_parts s u ≡ now → s.surface.log.log.number + 1 < 2 ^ 64 → HasNumbers width_of now (Look ∷ [])
-  next_has s u now same next = look_has s u now same (by_test (length (string_bytes s.held) == 0))
-    where
-      by_test : (b : Bool) → (fold step_of_kept s.surface.log ((if b then [] else Logged (run_change (string_bytes s.held)) ∷ []) ++ [])).log.number < 2 ^ 64
-      by_test true = omega arith
-      by_test false = next
+  -- it is refused memory
+  pub look_takes : (s : TerminalState W) (u : Held) (now : Terminal W) (failed : Bool) → with_parts s u ≡ now
+      → TakesMemory (width_of s.surface.grid.widths) (view_of s) s.surface.log Looked failed → HasNumbersToLook width_of now true
+  look_takes s u now failed same takes =
+      subst (λ t. HasNumbersToLook width_of t true) same
+      (λ view st. refused_look view.state.modes (width_of s.surface.grid.widths) view.state.screen view.held s.surface.log failed
+      (subst (λ (v : View). IsChangeRefused (run_logged (width_of s.surface.grid.widths) v) s.surface.log.log.number failed) (same_view s u view st) takes))
 
   -- ---- a chunk
 

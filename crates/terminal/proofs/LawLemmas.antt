@@ -1,5 +1,5 @@
 -- Histories of terminals: the states and logs to which they lead.
-use Rattle.std.proofs.Common.{◌≡◌, ℕ, List, [], ◌∷◌, ◌++◌, length, fold, inl, inr, sym, ap, subst, ◌∙◌}
+use Rattle.std.proofs.Common.{◌≡◌, ℕ, List, [], ◌∷◌, ◌++◌, length, fold, map, inl, inr, sym, ap, subst, ◌∙◌}
 use Rattle.std.specs.List.{AllByRecursion}
 use Rattle.std.specs.Prelude.{◌==◌, ◌⊎◌, Option, if◌then◌else◌}
 use Rattle.screen_log.specs.LogSteps.{Logged, step_of_kept}
@@ -16,13 +16,12 @@ use Rattle.terminal_steps.specs.Items.{AsksNothing, ParserNeedsMemory, SomeNeeds
 use Rattle.terminal_steps.proofs.MemoryLemmas.{bytes_take, quiet_items}
 use Rattle.terminal_table.specs.Alone as alone
 use Rattle.terminal_table.specs.Alone.{row_done, row_logged}
-use Rattle.terminal_table.specs.Changes.{run_change}
 use Rattle.terminal_table.specs.History.{History, Look, Piece}
 use Rattle.terminal_table.specs.Logged.{logged}
 use Rattle.terminal_table.specs.Meaning.{View, after}
 use Rattle.terminal_table.specs.Modes.{Modes}
 use Rattle.terminal_table.specs.State.{State}
-use Rattle.terminal_table.specs.Steps.{run_step}
+use Rattle.terminal_table.specs.Runs.{run_changes_of, run_step}
 use Rattle.terminal_table.proofs.JoinLemmas.{nothing_after}
 
 module _ {W : Type 0} (width_of : W → List ℕ → ℕ) where
@@ -46,7 +45,7 @@ module _ {W : Type 0} (width_of : W → List ℕ → ℕ) where
         state = there.state ∙ ap (λ (text : List ℕ). if length text == 0 then view.state else run_step (width_of before.surface.grid.widths) text view.state) held ∙ sym st.state;
         run = there.run ∙ sym none;
         unfinished = there.unfinished ∙ ap held_of (nothing_after view.stream) ∙ sym st.unfinished;
-        log = g.log view st ∙ ap (λ (text : List ℕ). fold step_of_kept before.surface.log ((if length text == 0 then [] else Logged (run_change text) ∷ []) ++ [])) held;
+        log = g.log view st ∙ ap (λ (text : List ℕ). fold step_of_kept before.surface.log ((if length text == 0 then [] else map Logged (run_changes_of (width_of before.surface.grid.widths) text view.state)) ++ [])) held;
       }
 
   -- a view at which an idle terminal stands is idle
@@ -61,11 +60,11 @@ module _ {W : Type 0} (width_of : W → List ℕ → ℕ) where
   alone_state law before now view action idle st w g =
       (g.stands view st).state ∙ law (of before) view action (idle_view before view idle st) w ∙ ap (row_done (of before) action) (sym st.state)
 
-  pub alone_log : ((f : List ℕ → ℕ) (view : View) (action : StreamAction) → alone.IsIdle view → IsWritable (action ∷ []) → logged f view (alone.alone action) ≡ row_logged action view.state)
+  pub alone_log : ((f : List ℕ → ℕ) (view : View) (action : StreamAction) → alone.IsIdle view → IsWritable (action ∷ []) → logged f view (alone.alone action) ≡ row_logged f action view.state)
       → (before now : Terminal W) (view : View) (action : StreamAction) → IsIdle before → StandsAt before view → IsWritable (action ∷ []) → GoesBy width_of before now (alone.alone action)
-      → now.surface.log ≡ fold step_of_kept before.surface.log (row_logged action (state_in before))
+      → now.surface.log ≡ fold step_of_kept before.surface.log (row_logged (of before) action (state_in before))
   alone_log law before now view action idle st w g =
-      g.log view st ∙ ap (fold step_of_kept before.surface.log) (law (of before) view action (idle_view before view idle st) w ∙ ap (row_logged action) (sym st.state))
+      g.log view st ∙ ap (fold step_of_kept before.surface.log) (law (of before) view action (idle_view before view idle st) w ∙ ap (row_logged (of before) action) (sym st.state))
 
   pub alone_idle : ((f : List ℕ → ℕ) (view : View) (action : StreamAction) → alone.IsIdle view → IsWritable (action ∷ []) → alone.IsIdle (after f view (alone.alone action)))
       → (before now : Terminal W) (view : View) (action : StreamAction) → IsIdle before → StandsAt before view → IsWritable (action ∷ []) → GoesBy width_of before now (alone.alone action) → IsIdle now

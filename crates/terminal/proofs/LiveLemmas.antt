@@ -1,5 +1,5 @@
 -- An update after each read.
-use Rattle.std.proofs.Common.{◌≡◌, ℕ, ◌+◌, ◌<◌, ◌≤◌, ◌^◌, ◌⊎◌, inl, inr, false, List, [], ◌∷◌, ◌++◌, length, refl, sym, ap, subst, ◌∙◌, arith, Option, Some, None, append_assoc, append-nil, length-append}
+use Rattle.std.proofs.Common.{◌≡◌, ℕ, Bool, ◌+◌, ◌<◌, ◌≤◌, ◌^◌, ◌⊎◌, inl, inr, true, false, List, [], ◌∷◌, ◌++◌, length, refl, sym, ap, subst, ◌∙◌, arith, Option, Some, None, append_assoc, append-nil, length-append}
 use Rattle.std.specs.Prelude.{IsTrue}
 use Rattle.std.specs.List.{AllByRecursion, flat_map}
 use Rattle.std.specs.Io.KnownBytes.{Appends, Consumes, Keeps}
@@ -7,12 +7,12 @@ use Rattle.std.proofs.lemmas.Grind.{flat_map-append}
 use Rattle.terminal.specs.Fed.{AnswersAt, AnswersNow}
 use Rattle.terminal.specs.Headline.{GoesBy}
 use Rattle.terminal.specs.Live.{HasBrought, IsCountedAt, IsPartOfLast, IsPiece, LastPieceTakesMemory, PiecesNeedNumber, ReadsEach, SendsEach, SendsPartOfLast, SendsPrefix, counted_each}
-use Rattle.terminal.specs.Refusals.{FeedTakesMemory, HasNumbers, NeedsMemory, NeedsNumber}
+use Rattle.terminal.specs.Refusals.{FeedTakesMemory, HasNumbersToLook, LookTakesMemory, NeedsMemory, NeedsNumber}
 use Rattle.terminal.specs.Shown.{AppendsPrefix}
 use Rattle.terminal.specs.Terminal.{Terminal}
 use Rattle.terminal.specs.Watched.{Watched, counted}
 use Rattle.terminal.specs.Written.{IsAt, IsCounted, Sends, SendsSome, UpdateWritten, looked, lightened, update_at}
-use Rattle.terminal.proofs.AnswerLemmas.{number_rises, update_alike, answers_first, answers_on, answers_later, answers_lightened, needs_there, fits_there, takes_there}
+use Rattle.terminal.proofs.AnswerLemmas.{number_rises, update_alike, answers_first, answers_on, answers_later, answers_lightened, needs_there, looks_there, takes_there}
 use Rattle.terminal.proofs.AppendLemmas.{keeps_same, nothing_appended}
 use Rattle.terminal.proofs.UpdateLemmas.{appends_both}
 use Rattle.terminal_table.specs.History.{Piece, Look}
@@ -169,12 +169,19 @@ module _ {W : Type 0} (width_of : W → List ℕ → ℕ) (w : W) where
           subst (λ (x : Standing). 2 ^ 64 ≤ x.log.log.number) (sym (standings_join f s.last (Piece bytes ∷ []) (Look ∷ [])) ∙ next_is)
           (needs_there width_of w s.from u (standing_after f s.last (Piece bytes ∷ [])) (Look ∷ []) tt widths (fed_answers u same g) n)
 
-      pub look_fits : (u : Terminal W) → t.surface.grid.widths ≡ w → u.surface.grid.widths ≡ w → GoesBy width_of t u (Piece bytes ∷ []) → HasNumbers width_of u (Look ∷ [])
-          → (standing_after f start (looks (pieces ++ bytes ∷ []))).log.log.number < 2 ^ 64
+      fed_is : fed ≡ standing_after f start (looks pieces ++ Piece bytes ∷ [])
+      unfolding fed
+      fed_is = ap (λ x. standing_after f x (Piece bytes ∷ [])) s.last_is ∙ sym (standings_join f start (looks pieces) (Piece bytes ∷ []))
+
+      pub look_fits : (u : Terminal W) (failed : Bool) → t.surface.grid.widths ≡ w → u.surface.grid.widths ≡ w → GoesBy width_of t u (Piece bytes ∷ []) → HasNumbersToLook width_of u failed
+          → LookTakesMemory f (standing_after f start (looks pieces ++ Piece bytes ∷ [])) true ⊎ ((standing_after f start (looks (pieces ++ bytes ∷ []))).log.log.number < 2 ^ 64)
       unfolding fed after_it
-      look_fits u same widths g n =
-          subst (λ (x : Standing). x.log.log.number < 2 ^ 64) (sym (standings_join f s.last (Piece bytes ∷ []) (Look ∷ [])) ∙ next_is)
-          (fits_there width_of w s.from u (standing_after f s.last (Piece bytes ∷ [])) (Look ∷ []) tt widths (fed_answers u same g) n)
+      look_fits u failed same widths g n = by_way (looks_there width_of w s.from u failed (standing_after f s.last (Piece bytes ∷ [])) widths (fed_answers u same g) n)
+        where
+          by_way : ((standing_after f (standing_after f s.last (Piece bytes ∷ [])) (Look ∷ [])).log.log.number < 2 ^ 64) ⊎ LookTakesMemory f (standing_after f s.last (Piece bytes ∷ [])) true
+              → LookTakesMemory f (standing_after f start (looks pieces ++ Piece bytes ∷ [])) true ⊎ ((standing_after f start (looks (pieces ++ bytes ∷ []))).log.log.number < 2 ^ 64)
+          by_way (inl fits) = inr (subst (λ (x : Standing). x.log.log.number < 2 ^ 64) (sym (standings_join f s.last (Piece bytes ∷ []) (Look ∷ [])) ∙ next_is) fits)
+          by_way (inr takes) = inl (subst (λ (x : Standing). LookTakesMemory f x true) fed_is takes)
 
       pub feed_takes : (u : Terminal W) → t.surface.grid.widths ≡ w → NeedsMemory width_of t bytes u → FeedTakesMemory f (standing_after f start (looks pieces)) bytes u.surface.is_failed
       feed_takes u same n = subst (λ (x : Standing). FeedTakesMemory f x bytes u.surface.is_failed) s.last_is (takes_there width_of w s.from t u s.last bytes same s.answers n)
@@ -335,13 +342,13 @@ module _ {R T W : Type 0} (width_of : W → List ℕ → ℕ) (remaining : R →
         why = λ start at. inl (feed_takes width_of w start live.pieces (contents writer.inner) (contents new.inner) t number (live.sent start at) bytes u same n);
       }
 
-      pub live_look_memory : (u : Terminal W) → GoesBy width_of t u (Piece bytes ∷ []) → HasNumbers width_of u (Look ∷ []) → LastPieceTakesMemory of (IsCountedAt before) remaining reader next
-      live_look_memory u g n = record {
+      pub live_look_memory : (u : Terminal W) (failed : Bool) → GoesBy width_of t u (Piece bytes ∷ []) → HasNumbersToLook width_of u failed → LastPieceTakesMemory of (IsCountedAt before) remaining reader next
+      live_look_memory u failed g n = record {
         pieces = live.pieces;
         last = bytes;
         brought = brought_on;
         failed = false;
-        why = λ start at. inr (look_fits width_of w start live.pieces (contents writer.inner) (contents new.inner) t number (live.sent start at) bytes u same (g.widths ∙ same) g n);
+        why = λ start at. inr (look_fits width_of w start live.pieces (contents writer.inner) (contents new.inner) t number (live.sent start at) bytes u failed same (g.widths ∙ same) g n);
       }
 
     -- all that was read is sent

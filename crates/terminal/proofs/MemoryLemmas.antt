@@ -6,17 +6,16 @@ use Rattle.screen_log.specs.LogSteps as log
 use Rattle.screen_log.specs.LogSteps.{LogStep, Logged, Sized, step_of_kept}
 use Rattle.escape_stream.specs.Items.{Item, Text, Single, items, items_of}
 use Rattle.escape_stream.specs.StreamAction.{StreamAction, is_print, print_string, printed}
-use Rattle.terminal.specs.Refusals.{FeedTakesMemory}
+use Rattle.terminal.specs.Refusals.{FeedTakesMemory, LookTakesMemory}
 use Rattle.terminal_steps.specs.Items.{ParserNeedsMemory, SomeNeedsMemory, item_event, item_events, log_after_items}
 use Rattle.xterm_steps.specs.Additions.{IsChangeRefused}
 use Rattle.terminal_steps.specs.Memory.{TakesMemory, TakesOwnMemory, number_settled}
-use Rattle.terminal_table.specs.Changes.{run_change}
 use Rattle.terminal_table.specs.History.{Act}
 use Rattle.terminal_table.specs.Logged.{event_logged, events_logged, run_logged}
 use Rattle.terminal_table.specs.Meaning.{View, settled, event_done}
-use Rattle.terminal_table.specs.Request.{Request, Table, Xterm, Sets, Switches, Replies}
+use Rattle.terminal_table.specs.Request.{Request, Table, Xterm, Sets, SetsAlone, Switches, Replies}
 use Rattle.terminal_table.specs.Requests.{acted, acted_changes, request_changes, request_done, request_of}
-use Rattle.terminal_table.specs.Steps.{run_step}
+use Rattle.terminal_table.specs.Runs.{run_step}
 use Rattle.terminal_viewers.specs.Updates.{Standing}
 use Rattle.terminal_viewers.specs.Viewers.{AreAlike, AnswersAs}
 use Rattle.terminal_viewers.proofs.DueLemmas.{AreChanges}
@@ -54,6 +53,7 @@ module _ (f : List ℕ → ℕ) where
       by_request (Some (Table function)) = record { screen = refl; saved = refl; modes = refl; stream = refl; held = refl }
       by_request (Some (Xterm function)) = record { screen = refl; saved = refl; modes = refl; stream = refl; held = refl }
       by_request (Some (Sets setting function)) = record { screen = refl; saved = refl; modes = refl; stream = refl; held = refl }
+      by_request (Some (SetsAlone setting)) = record { screen = refl; saved = refl; modes = refl; stream = refl; held = refl }
       by_request (Some (Switches function)) = record { screen = refl; saved = refl; modes = refl; stream = refl; held = refl }
       by_request (Some (Replies text)) = record { screen = refl; saved = refl; modes = refl; stream = refl; held = refl }
 
@@ -65,6 +65,7 @@ module _ (f : List ℕ → ℕ) where
       by_request (Some (Table function)) = refl
       by_request (Some (Xterm function)) = refl
       by_request (Some (Sets setting function)) = refl
+      by_request (Some (SetsAlone setting)) = refl
       by_request (Some (Switches function)) = refl
       by_request (Some (Replies text)) = refl
 
@@ -75,8 +76,8 @@ module _ (f : List ℕ → ℕ) where
       by_test true e = rw e (record { screen = h.screen; saved = h.saved; modes = h.modes; stream = h.stream; held = ap (λ held. held ++ printed action) h.held })
       by_test false e = rw e (acted_alike action (settled f a) (settled f b) (settled_alike a b h))
 
-  run_alike : (a b : View) → AreAlike a b → run_logged a ≡ run_logged b
-  run_alike a b h = ap (λ (held : List ℕ). if length held == 0 then [] else Logged (run_change held) ∷ []) h.held
+  run_alike : (a b : View) → AreAlike a b → run_logged f a ≡ run_logged f b
+  run_alike a b h = ap (run_logged f) (same_as a b h)
 
   logs_alike : (a b : View) (action : StreamAction) → AreAlike a b → event_logged f a (Act action) ≡ event_logged f b (Act action)
   logs_alike a b action h = λ i.
@@ -92,14 +93,23 @@ module _ (f : List ℕ → ℕ) where
   action_number a b l m action h e =
       ap (λ steps. (fold step_of_kept l steps).log.number) (logs_alike a b action h) ∙ steps_number (event_logged f b (Act action)) (action_changes f b action) l m e
 
-  settled_number : (a b : View) (l m : Sized) → AreAlike a b → l.log.number ≡ m.log.number → number_settled a l ≡ number_settled b m
-  settled_number a b l m h e = ap (λ steps. (fold step_of_kept l steps).log.number) (run_alike a b h) ∙ steps_number (run_logged b) (run_changes f b) l m e
+  settled_number : (a b : View) (l m : Sized) → AreAlike a b → l.log.number ≡ m.log.number → number_settled f a l ≡ number_settled f b m
+  settled_number a b l m h e = ap (λ steps. (fold step_of_kept l steps).log.number) (run_alike a b h) ∙ steps_number (run_logged f b) (run_changes f b) l m e
 
   takes_alike : (a b : View) (l m : Sized) (action : StreamAction) (failed : Bool) → AreAlike a b → l.log.number ≡ m.log.number → TakesMemory f a l (Act action) failed → TakesMemory f b m (Act action) failed
   takes_alike a b l m action failed h e takes =
       let s = settled_alike a b h in
       subst (λ (T : Type 0). T)
       (λ i. (is_print action ≡ true) ⊎ TakesOwnMemory (request_of (s.modes i) (s.screen i) action) (settled_number a b l m h e i) ⊎ IsChangeRefused (logs_alike a b action h i) (e i) failed) takes
+
+  -- ---- a look
+
+  run_takes : (a b : View) (l m : Sized) (failed : Bool) → AreAlike a b → l.log.number ≡ m.log.number → IsChangeRefused (run_logged f a) l.log.number failed → IsChangeRefused (run_logged f b) m.log.number failed
+  run_takes a b l m failed h e refused = subst (λ (T : Type 0). T) (λ i. IsChangeRefused (run_alike a b h i) (e i) failed) refused
+
+  pub look_alike : (number : ℕ) (kept whole : Standing) (failed : Bool) → AnswersAs number kept whole → LookTakesMemory f kept failed → LookTakesMemory f whole failed
+  look_alike number kept whole failed h takes =
+      (λ none. takes.0 (h.views.modes ∙ none), run_takes kept.view whole.view kept.log whole.log failed h.views h.logs.count takes.1)
 
   -- ---- items
 

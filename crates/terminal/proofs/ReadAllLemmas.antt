@@ -1,5 +1,5 @@
 -- An input that is read and fed in chunks, to a terminal that forgets its changes and drops its replies.
-use Rattle.std.proofs.Common.{◌≡◌, ℕ, ◌^◌, ◌<◌, ◌≤◌, inl, inr, false, List, [], ◌∷◌, ◌++◌, length, refl, sym, ap, subst, ◌∙◌, arith, Option, Some, None, append_assoc, append-nil}
+use Rattle.std.proofs.Common.{◌≡◌, ◌⊎◌, ℕ, Bool, ◌^◌, ◌<◌, ◌≤◌, inl, inr, true, false, List, [], ◌∷◌, ◌++◌, length, refl, sym, ap, subst, ◌∙◌, arith, Option, Some, None, append_assoc, append-nil}
 use Rattle.std.specs.Prelude.{IfSome}
 use Rattle.std.specs.Io.KnownBytes.{Appends, Consumes, IsAtEnd}
 use Rattle.cell_base.specs.Screen.{screen_text}
@@ -8,10 +8,10 @@ use Rattle.terminal.specs.Fed.{AnswersAt, AnswersNow, IsFed, FeedsOn, Feeds, Fee
 use Rattle.terminal.specs.Written.{IsAt, IsCounted, Lightens}
 use Rattle.terminal.specs.Shown.{AppendsPrefix, rows_shown}
 use Rattle.terminal.specs.Headline.{GoesBy}
-use Rattle.terminal.specs.Refusals.{HasNumbers, IsRefusedMemory, NeedsMemory, NeedsNumber, ReadingIsRefusedMemory, ReadingNeedsNumber, one_look}
+use Rattle.terminal.specs.Refusals.{HasNumbersToLook, IsRefusedMemory, LastLookTakesMemory, LookTakesMemory, NeedsMemory, NeedsNumber, ReadingIsRefusedMemory, ReadingNeedsNumber, one_look}
 use Rattle.terminal.specs.Terminal.{Terminal, state_in}
 use Rattle.terminal.proofs.AppendLemmas.{keeps_same, nothing_appended}
-use Rattle.terminal.proofs.AnswerLemmas.{chunks_join, number_rises, answers_first, answers_on, answers_at_rest, answers_later, answers_lighter, number_there, needs_there, fits_there, takes_there, quiet_look}
+use Rattle.terminal.proofs.AnswerLemmas.{chunks_join, number_rises, answers_first, answers_on, answers_at_rest, answers_later, answers_lighter, number_there, needs_there, looks_there, takes_there, quiet_look}
 use Rattle.terminal_table.specs.History.{History, Piece, Look}
 use Rattle.terminal_table.specs.Logged.{log_of}
 use Rattle.terminal_table.specs.State.{State}
@@ -168,16 +168,20 @@ module _ {W : Type 0} (width_of : W → List ℕ → ℕ) where
 
   -- ---- the cause of refused memory
 
-  -- memory may be refused where all of the input was fed and there are numbers for the look
-  pub fits_look : (input left : Option (List ℕ)) (t fed : Terminal W) → Feeds width_of input t fed → IfSome input (λ x. left ≡ Some []) → HasNumbers width_of fed (Look ∷ []) → ReadingIsRefusedMemory width_of one_look t input left
-  fits_look None left t fed h all n = tt
-  fits_look (Some x) left t fed h all n = λ start at counted.
+  -- memory may be refused where all of the input was fed, and there are numbers for the look or it takes memory
+  pub fits_look : (input left : Option (List ℕ)) (t fed : Terminal W) (failed : Bool) → Feeds width_of input t fed → IfSome input (λ x. left ≡ Some []) → HasNumbersToLook width_of fed failed → ReadingIsRefusedMemory width_of one_look t input left
+  fits_look None left t fed failed h all n = tt
+  fits_look (Some x) left t fed failed h all n = λ start at counted.
       let whole = standing_after (of t) start (Piece x ∷ []) in
       record {
         part = record { read = x; rest = []; whole = sym (append-nil x); remaining = all };
-        why = inr (subst (λ (y : Standing). y.log.log.number < 2 ^ 64) (joined t start x)
-            (fits_there width_of t.surface.grid.widths whole.log.log.number fed whole (Look ∷ []) tt h.widths (h.answers start at counted) n));
+        why = inr (by_way start (looks_there width_of t.surface.grid.widths whole.log.log.number fed failed whole h.widths (h.answers start at counted) n));
       }
+    where
+      by_way : (start : Standing) → ((standing_after (of t) (standing_after (of t) start (Piece x ∷ [])) (Look ∷ [])).log.log.number < 2 ^ 64) ⊎ LookTakesMemory (of t) (standing_after (of t) start (Piece x ∷ [])) true
+          → LastLookTakesMemory (of t) start one_look x ⊎ ((standing_after (of t) start (one_look x)).log.log.number < 2 ^ 64)
+      by_way start (inl fits) = inr (subst (λ (y : Standing). y.log.log.number < 2 ^ 64) (joined t start x) fits)
+      by_way start (inr takes) = inl (record { history = Piece x ∷ []; rest = []; whole = refl; last = refl; takes = takes })
 
   -- ---- a new terminal
 
@@ -208,7 +212,7 @@ nothing_read f width height history_of (Some x) e =
     let start = new_standing width height in
     record {
       part = record { read = []; rest = x; whole = refl; remaining = refl };
-      why = inr (subst (λ h. (standing_after f start h).log.log.number < 2 ^ 64) (sym e) (subst (λ n. n < 2 ^ 64) (sym (quiet_look f start refl)) (omega arith)));
+      why = inr (inr (subst (λ h. (standing_after f start h).log.log.number < 2 ^ 64) (sym e) (subst (λ n. n < 2 ^ 64) (sym (quiet_look f start refl)) (omega arith))));
     }
 
 pub nothing_shown : (f : List ℕ → ℕ) (width height : ℕ) (input old : Option (List ℕ)) → IfSome input (λ x. AppendsPrefix old old (rows_shown f width height x))

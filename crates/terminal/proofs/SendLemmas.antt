@@ -1,12 +1,12 @@
 -- The updates of an input, where its bytes are known.
-use Rattle.std.proofs.Common.{◌≡◌, ℕ, ◌+◌, ◌<◌, ◌≤◌, ◌^◌, false, List, [], ◌∷◌, length, refl, sym, ap, subst, ◌∙◌, arith, Option, Some, None}
+use Rattle.std.proofs.Common.{◌≡◌, ℕ, Bool, ◌+◌, ◌<◌, ◌≤◌, ◌^◌, false, List, [], ◌∷◌, length, refl, sym, ap, subst, ◌∙◌, arith, Option, Some, None}
 use Rattle.std.specs.Prelude.{IfSome}
 use Rattle.std.specs.Io.KnownBytes.{Appends, Consumes, IsAtEnd, Keeps}
 use Rattle.terminal.specs.Fed.{Reads}
 use Rattle.terminal.specs.Written.{IsAt, IsCounted, Lightens, UpdateWritten, Sends, SendsSome, SendsAll, SendsChunks, SendsChunksOf, SendsFirst, SendsPart, LooksNeedNumber, due_from, looked, number_after, update_at, updates_from}
 use Rattle.terminal.specs.Shown.{AppendsPrefix}
 use Rattle.terminal.specs.Headline.{GoesBy}
-use Rattle.terminal.specs.Refusals.{HasNumbers, NeedsMemory, NeedsNumber, ReadingIsRefusedMemory, all_looks}
+use Rattle.terminal.specs.Refusals.{HasNumbersToLook, NeedsMemory, NeedsNumber, ReadingIsRefusedMemory, all_looks}
 use Rattle.terminal.specs.Terminal.{Terminal}
 use Rattle.terminal.proofs.AppendLemmas.{nothing_appended, keeps_same}
 use Rattle.terminal.proofs.UpdateLemmas.{IsSending, sending_chunks, sending_first, sending_lighter, sending_more, sending_next, sending_all, sending_ends, sending_part, sending_some, sending_last, past_feed, past_look, past_end, memory_feed, memory_look, memory_end}
@@ -133,19 +133,19 @@ module _ {W : Type 0} (width_of : W → List ℕ → ℕ) where
     on_feed_memory (Some input) (Some rest) (Some next) bytes u s c most n = λ start at counted.
         memory_feed width_of before.surface.grid.widths every start input rest old now t number left (s start at counted) next bytes u (Some next) c refl same most n
 
-    pub on_look_memory : (input rest next : Option (List ℕ)) (bytes : List ℕ) (u : Terminal W) → SendsOn width_of every before input rest old now t number left → Consumes rest next bytes → GoesBy width_of t u (Piece bytes ∷ []) → length bytes ≡ left → 0 < left → HasNumbers width_of u (Look ∷ []) → ReadingIsRefusedMemory width_of (all_looks every) before input next
-    on_look_memory None rest next bytes u s c g full some n = tt
-    on_look_memory (Some input) None next bytes u s c g full some n = absurd s
-    on_look_memory (Some input) (Some rest) None bytes u s c g full some n = absurd c
-    on_look_memory (Some input) (Some rest) (Some next) bytes u s c g full some n = λ start at counted.
-        memory_look width_of before.surface.grid.widths every start input rest old now t number left (s start at counted) next bytes u (Some next) c refl same (g.widths ∙ same) g full some n
+    pub on_look_memory : (input rest next : Option (List ℕ)) (bytes : List ℕ) (u : Terminal W) (failed : Bool) → SendsOn width_of every before input rest old now t number left → Consumes rest next bytes → GoesBy width_of t u (Piece bytes ∷ []) → length bytes ≡ left → 0 < left → HasNumbersToLook width_of u failed → ReadingIsRefusedMemory width_of (all_looks every) before input next
+    on_look_memory None rest next bytes u failed s c g full some n = tt
+    on_look_memory (Some input) None next bytes u failed s c g full some n = absurd s
+    on_look_memory (Some input) (Some rest) None bytes u failed s c g full some n = absurd c
+    on_look_memory (Some input) (Some rest) (Some next) bytes u failed s c g full some n = λ start at counted.
+        memory_look width_of before.surface.grid.widths every start input rest old now t number left (s start at counted) next bytes u failed (Some next) c refl same (g.widths ∙ same) g full some n
 
-    pub on_end_memory : (input rest next : Option (List ℕ)) → SendsOn width_of every before input rest old now t number left → Consumes rest next [] → HasNumbers width_of t (Look ∷ []) → ReadingIsRefusedMemory width_of (all_looks every) before input next
-    on_end_memory None rest next s c n = tt
-    on_end_memory (Some input) None next s c n = absurd s
-    on_end_memory (Some input) (Some rest) None s c n = absurd c
-    on_end_memory (Some input) (Some rest) (Some next) s c n = λ start at counted.
-        memory_end width_of before.surface.grid.widths every start input rest old now t number left (s start at counted) (Some next) (ap Some (sym c)) same n
+    pub on_end_memory : (input rest next : Option (List ℕ)) (failed : Bool) → SendsOn width_of every before input rest old now t number left → Consumes rest next [] → HasNumbersToLook width_of t failed → ReadingIsRefusedMemory width_of (all_looks every) before input next
+    on_end_memory None rest next failed s c n = tt
+    on_end_memory (Some input) None next failed s c n = absurd s
+    on_end_memory (Some input) (Some rest) None failed s c n = absurd c
+    on_end_memory (Some input) (Some rest) (Some next) failed s c n = λ start at counted.
+        memory_end width_of before.surface.grid.widths every start input rest old now t number left (s start at counted) failed (Some next) (ap Some (sym c)) same n
 
   -- ---- a new terminal
 

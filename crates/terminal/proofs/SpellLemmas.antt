@@ -20,7 +20,8 @@ use Rattle.terminal_render.specs.Spelling.{AreSpelledModes, HaveEncodings, IsSpe
 use Rattle.terminal_render.proofs.LogLemmas.{history_keeps}
 use Rattle.terminal_render.proofs.StreamLemmas.{history_spelled}
 use Rattle.terminal_table.proofs.StateLemmas.{HasSize}
-use Rattle.terminal_render.proofs.ViewLemmas.{acted_size, new_spelled_with, settled_size}
+use Rattle.terminal_render.proofs.RequestLemmas.{acted_size}
+use Rattle.terminal_render.proofs.ViewLemmas.{new_spelled_with, settled_size}
 use Rattle.terminal_steps.specs.Events.{IsReady, Had}
 use Rattle.terminal_steps.specs.Items.{Leads, item_events}
 use Rattle.terminal_steps.specs.declared.state.TerminalState.{TerminalState}

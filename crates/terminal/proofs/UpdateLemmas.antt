@@ -1,6 +1,7 @@
 -- The updates of an input that is read in chunks.
 use Rattle.std.proofs.Common.{◌≡◌, ◌≢◌, ℕ, ◌+◌, ◌<◌, ◌≤◌, ◌^◌, ◌⊎◌, inl, inr, Bool, true, false, List, [], ◌∷◌, ◌++◌, length, refl, sym, ap, subst, ◌∙◌, arith, Option, Some, None, append_assoc, append-nil, length-append}
 use Rattle.std.specs.Prelude.{◌==◌, if◌then◌else◌}
+use Rattle.std.specs.List.{flat_map}
 use Rattle.std.proofs.lemmas.Grind.{flat_map-append}
 use Rattle.std.proofs.lemmas.Bool.Decides.{eqb_tells}
 use Rattle.std.specs.Io.KnownBytes.{Appends}
@@ -10,11 +11,11 @@ use Rattle.terminal.specs.Fed.{AnswersAt, AnswersNow}
 use Rattle.terminal.specs.Written.{IsAt, IsCounted, Lightens, UpdateWritten, SendsChunks, SendsPart, due_from, looked, lightened, update_at, updates_from, number_after}
 use Rattle.terminal.specs.Shown.{AppendsPrefix}
 use Rattle.terminal.specs.Headline.{GoesBy}
-use Rattle.terminal.specs.Refusals.{FeedTakesMemory, HasNumbers, IsRefusedMemory, NeedsMemory, NeedsNumber, all_looks}
+use Rattle.terminal.specs.Refusals.{FeedTakesMemory, HasNumbersToLook, IsRefusedMemory, LastLookTakesMemory, LastTakesMemory, LookTakesMemory, NeedsMemory, NeedsNumber, all_looks}
 use Rattle.terminal.specs.Terminal.{Terminal}
-use Rattle.terminal.proofs.AnswerLemmas.{chunks_join, number_rises, update_alike, answers_first, answers_on, answers_at_rest, answers_lightened, answers_lighter, number_there, needs_there, fits_there, takes_there, quiet_look}
+use Rattle.terminal.proofs.AnswerLemmas.{chunks_join, number_rises, update_alike, answers_first, answers_on, answers_at_rest, answers_lightened, answers_lighter, number_there, needs_there, looks_there, takes_there, quiet_look}
 use Rattle.terminal.proofs.GoLemmas.{actions_join}
-use Rattle.terminal_table.specs.History.{History, Piece, Look}
+use Rattle.terminal_table.specs.History.{History, Piece, Look, pieces}
 use Rattle.terminal_viewers.specs.Updates.{Standing, in_chunks, looks, standing_after, updates_after}
 use Rattle.terminal_viewers.specs.Viewers.{AnswersAs}
 use Rattle.terminal_viewers.proofs.KeptLemmas.{answers_after}
@@ -94,6 +95,11 @@ holds every begun (byte ∷ bytes) next h = either (order (length begun + length
 
 looks-append : (ps qs : List (List ℕ)) → looks (ps ++ qs) ≡ looks ps ++ looks qs
 looks-append ps qs = flat_map-append (λ chunk. Piece chunk ∷ Look ∷ []) ps qs
+
+-- looks leave the bytes of chunks as they are
+pieces_in : (ps : List (List ℕ)) → pieces (looks ps) ≡ flat_map (λ bytes. bytes) ps
+pieces_in [] = refl
+pieces_in (bytes ∷ ps) = ap (λ l. bytes ++ l) (pieces_in ps)
 
 module _ {W : Type 0} (width_of : W → List ℕ → ℕ) (w : W) where
   abbrev f : List ℕ → ℕ
@@ -457,35 +463,62 @@ module _ {W : Type 0} (width_of : W → List ℕ → ℕ) (w : W) where
       });
     }
 
-    -- where there are numbers for a look after a chunk, the number after it has 64 bits
-    look_fits : (chunk : List ℕ) (u : Terminal W) → u.surface.grid.widths ≡ w → AnswersAt s.from u (with_chunk chunk) → HasNumbers width_of u (Look ∷ []) → (next_of chunk).log.log.number < 2 ^ 64
+    -- where there are numbers for a look after a chunk, the number after it has 64 bits; or the look is refused memory
+    look_fits : (chunk : List ℕ) (u : Terminal W) (failed : Bool) → u.surface.grid.widths ≡ w → AnswersAt s.from u (with_chunk chunk) → HasNumbersToLook width_of u failed
+        → ((next_of chunk).log.log.number < 2 ^ 64) ⊎ LookTakesMemory f (with_chunk chunk) true
     unfolding next_of with_chunk
-    look_fits chunk u same a n =
-        subst (λ (x : Standing). x.log.log.number < 2 ^ 64) (sym (standings_join f s.last (Piece chunk ∷ []) (Look ∷ []))) (fits_there width_of w s.from u (with_chunk chunk) (Look ∷ []) tt same a n)
+    look_fits chunk u failed same a n =
+        subst (λ (x : Standing). (x.log.log.number < 2 ^ 64) ⊎ LookTakesMemory f (standing_after f s.last (Piece chunk ∷ [])) true) (sym (standings_join f s.last (Piece chunk ∷ []) (Look ∷ [])))
+        (looks_there width_of w s.from u failed (with_chunk chunk) same a n)
 
-    -- after bytes that fill a chunk the number is that of its look: the next chunk is empty, and logs nothing
+    -- the look after the chunk that has begun, to which no bytes come
+    last_look : (bytes chunk : List ℕ) (rest : List (List ℕ)) → in_chunks every [] bytes ≡ s.done ++ chunk ∷ rest → flat_map (λ bytes. bytes) rest ≡ [] → LookTakesMemory f (with_chunk chunk) true → LastLookTakesMemory f start (all_looks every) bytes
+    unfolding with_chunk
+    last_look bytes chunk rest chunks none takes = record {
+      history = looks s.done ++ (Piece chunk ∷ []);
+      rest = looks rest;
+      whole = ap looks chunks ∙ looks-append s.done (chunk ∷ rest) ∙ sym (append_assoc (looks s.done) (Piece chunk ∷ []) (Look ∷ looks rest));
+      last = pieces_in rest ∙ none;
+      takes = subst (λ (x : Standing). LookTakesMemory f x true) (ap (λ x. standing_after f x (Piece chunk ∷ [])) s.last_is ∙ sym (standings_join f start (looks s.done) (Piece chunk ∷ []))) takes;
+    }
+
+    -- bytes that fill a chunk; the next one is empty
+    full_chunks : (bytes : List ℕ) → 0 < length bytes → length s.begun + length bytes ≡ every → in_chunks every [] (s.read ++ bytes) ≡ s.done ++ ((s.begun ++ bytes) ∷ [] ∷ [])
+    full_chunks bytes some full =
+        s.chunks bytes ∙ ap (λ l. s.done ++ in_chunks every s.begun l) (sym (append-nil bytes)) ∙ ap (λ ps. s.done ++ ps) (fills every s.begun bytes [] some full)
+
+    -- after them the number is that of the look after them: the empty chunk logs nothing
     full_number : (bytes : List ℕ) → 0 < length bytes → length s.begun + length bytes ≡ every → number_after f every start (s.read ++ bytes) ≡ (next_of (s.begun ++ bytes)).log.log.number
     unfolding next_of with_chunk
     full_number bytes some full =
         let chunk = s.begun ++ bytes in
-        let next = next_of chunk in
-        let chunks : in_chunks every [] (s.read ++ bytes) ≡ s.done ++ (chunk ∷ [] ∷ [])
-        = s.chunks bytes ∙ ap (λ l. s.done ++ in_chunks every s.begun l) (sym (append-nil bytes)) ∙ ap (λ ps. s.done ++ ps) (fills every s.begun bytes [] some full) in
-        ap (λ (x : Standing). x.log.log.number) (chunks_after (s.read ++ bytes) (chunk ∷ [] ∷ []) chunks ∙ standings_join f s.last (looks (chunk ∷ [])) (Piece [] ∷ Look ∷ []))
-        ∙ quiet_look f next (ap (λ (x : Standing). x.view.held) (standings_join f s.last (Piece chunk ∷ []) (Look ∷ [])))
+        ap (λ (x : Standing). x.log.log.number) (chunks_after (s.read ++ bytes) (chunk ∷ [] ∷ []) (full_chunks bytes some full) ∙ standings_join f s.last (looks (chunk ∷ [])) (Piece [] ∷ Look ∷ []))
+        ∙ quiet_look f (next_of chunk) (ap (λ (x : Standing). x.view.held) (standings_join f s.last (Piece chunk ∷ []) (Look ∷ [])))
 
-    pub memory_look : (next bytes : List ℕ) (u : Terminal W) (remaining : Option (List ℕ)) → rest ≡ bytes ++ next → remaining ≡ Some next → t.surface.grid.widths ≡ w → u.surface.grid.widths ≡ w → GoesBy width_of t u (Piece bytes ∷ []) → length bytes ≡ left → 0 < left
-        → HasNumbers width_of u (Look ∷ []) → IsRefusedMemory f start (all_looks every) input remaining
-    memory_look next bytes u remaining e known same widths g full some n =
+    -- why memory is refused at a look
+    Why : List ℕ → Type 0
+    Why bytes = LastTakesMemory f start (all_looks every) bytes ⊎ LastLookTakesMemory f start (all_looks every) bytes ⊎ (number_after f every start bytes < 2 ^ 64)
+
+    why_look : (bytes chunk : List ℕ) (rest : List (List ℕ)) → in_chunks every [] bytes ≡ s.done ++ chunk ∷ rest → flat_map (λ bytes. bytes) rest ≡ [] → number_after f every start bytes ≡ (next_of chunk).log.log.number
+        → ((next_of chunk).log.log.number < 2 ^ 64) ⊎ LookTakesMemory f (with_chunk chunk) true → Why bytes
+    unfolding Why
+    why_look bytes chunk rest chunks none number (inl fits) = inr (inr (subst (λ m. m < 2 ^ 64) (sym number) fits))
+    why_look bytes chunk rest chunks none number (inr takes) = inr (inl (last_look bytes chunk rest chunks none takes))
+
+    pub memory_look : (next bytes : List ℕ) (u : Terminal W) (failed : Bool) (remaining : Option (List ℕ)) → rest ≡ bytes ++ next → remaining ≡ Some next → t.surface.grid.widths ≡ w → u.surface.grid.widths ≡ w → GoesBy width_of t u (Piece bytes ∷ []) → length bytes ≡ left → 0 < left
+        → HasNumbersToLook width_of u failed → IsRefusedMemory f start (all_looks every) input remaining
+    unfolding Why
+    memory_look next bytes u failed remaining e known same widths g full some n =
         let room = s.room in
         record {
           part = record { read = s.read ++ bytes; rest = next; whole = s.whole ∙ ap (λ l. s.read ++ l) e ∙ sym (append_assoc s.read bytes next); remaining = known };
-          why = inr (subst (λ m. m < 2 ^ 64) (sym (full_number bytes (omega arith) (omega arith))) (look_fits (s.begun ++ bytes) u widths (fed_on bytes u same g) n));
+          why = why_look (s.read ++ bytes) (s.begun ++ bytes) ([] ∷ []) (full_chunks bytes (omega arith) (omega arith)) refl (full_number bytes (omega arith) (omega arith))
+              (look_fits (s.begun ++ bytes) u failed widths (fed_on bytes u same g) n);
         }
 
-    pub memory_end : (remaining : Option (List ℕ)) → remaining ≡ Some rest → t.surface.grid.widths ≡ w → HasNumbers width_of t (Look ∷ []) → IsRefusedMemory f start (all_looks every) input remaining
-    unfolding next_of with_chunk
-    memory_end remaining known same n = record {
+    pub memory_end : (failed : Bool) (remaining : Option (List ℕ)) → remaining ≡ Some rest → t.surface.grid.widths ≡ w → HasNumbersToLook width_of t failed → IsRefusedMemory f start (all_looks every) input remaining
+    unfolding next_of with_chunk Why
+    memory_end failed remaining known same n = record {
       part = record { read = s.read; rest = rest; whole = s.whole; remaining = known };
-      why = inr (subst (λ (x : Standing). x.log.log.number < 2 ^ 64) (sym (chunks_after s.read (s.begun ∷ []) chunks_read)) (look_fits s.begun t same s.answers n));
+      why = why_look s.read s.begun [] chunks_read refl (ap (λ (x : Standing). x.log.log.number) (chunks_after s.read (s.begun ∷ []) chunks_read)) (look_fits s.begun t failed same s.answers n);
     }

@@ -39,7 +39,7 @@ use Rattle.terminal_viewers.specs.Showing.{CanAnswer}
 use Rattle.terminal_render.specs.EncodedSizes.{AreShort, all_encoded_size, prints_in, runs_in}
 use Rattle.terminal_render.specs.Spelling.{HaveEncodings, IsSpelledScreen, IsSpelledState, IsSpelledText}
 use Rattle.terminal_table.proofs.StateLemmas.{replay_size}
-use Rattle.terminal_render.proofs.ViewLemmas.{display_on_is}
+use Rattle.terminal_render.proofs.RequestLemmas.{display_on_is}
 use Rattle.terminal_table.specs.Alone as alone
 use Rattle.terminal_table.specs.History.{History, Piece, Look, Looked, Forget}
 use Rattle.terminal_table.specs.Logged.{event_logged}

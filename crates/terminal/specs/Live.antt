@@ -1,13 +1,14 @@
 -- What `run_live` writes: an update after each read that brought bytes, before the next read.
-use Rattle.std.specs.Prelude.{◌≡◌, ◌⊎◌, ℕ, ◌+◌, ◌<◌, ◌≤◌, ◌^◌, Bool, List, [], ◌∷◌, ◌++◌, length, Option, IsTrue}
+use Rattle.std.specs.Prelude.{◌≡◌, ◌⊎◌, ℕ, ◌+◌, ◌<◌, ◌≤◌, ◌^◌, Bool, true, List, [], ◌∷◌, ◌++◌, length, Option, IsTrue}
 use Rattle.std.specs.List.{AllByRecursion, flat_map}
 use Rattle.std.specs.Io.KnownBytes.{Appends, Consumes}
 use Rattle.terminal.specs.Fed.{AnswersNow}
-use Rattle.terminal.specs.Refusals.{FeedTakesMemory}
+use Rattle.terminal.specs.Refusals.{FeedTakesMemory, LookTakesMemory}
 use Rattle.terminal.specs.Shown.{AppendsPrefix}
 use Rattle.terminal.specs.Terminal.{Terminal}
 use Rattle.terminal.specs.Watched.{Watched, counted}
 use Rattle.terminal.specs.Written.{IsAt, IsCounted}
+use Rattle.terminal_table.specs.History.{Piece}
 use Rattle.terminal_viewers.specs.Updates.{Standing, looks, standing_after, updates_after}
 
 -- a piece is what one read brings
@@ -95,8 +96,8 @@ pub record PiecesNeedNumber {R : Type 0} (width_of : List ℕ → ℕ) (first : 
   pub past : (start : Standing) → first start
       → 2 ^ 64 ≤ (standing_after width_of start (looks pieces)).log.log.number
 
--- from each standing that is `first`, feeding the last piece is refused memory, or the number after it, with its look,
--- fits in 64 bits
+-- From each standing that is `first`, feeding the last piece is refused memory; or on a terminal that isn't plain the
+-- look after it is; or the number after it, with its look, fits in 64 bits.
 pub record LastPieceTakesMemory {R : Type 0} (width_of : List ℕ → ℕ) (first : Standing → Type 0)
     (remaining : R → Option (List ℕ)) (reader next_reader : Watched R) : Type 0 where
   pub pieces : List (List ℕ)
@@ -105,4 +106,5 @@ pub record LastPieceTakesMemory {R : Type 0} (width_of : List ℕ → ℕ) (firs
   pub failed : Bool
   pub why : (start : Standing) → first start
       → FeedTakesMemory width_of (standing_after width_of start (looks pieces)) last failed
+      ⊎ LookTakesMemory width_of (standing_after width_of start (looks pieces ++ Piece last ∷ [])) true
       ⊎ ((standing_after width_of start (looks (pieces ++ last ∷ []))).log.log.number < 2 ^ 64)

@@ -1,11 +1,13 @@
 -- When a terminal has no number left for a change, or is refused memory.
-use Rattle.std.specs.Prelude.{◌≡◌, ◌⊎◌, ◌≤◌, ◌<◌, ◌^◌, ℕ, Bool, List, [], ◌∷◌, ◌++◌, length, Option, Some, None}
+use Rattle.std.specs.Prelude.{◌≡◌, ◌≢◌, ◌⊎◌, ◌≤◌, ◌<◌, ◌^◌, ℕ, Bool, true, List, [], ◌∷◌, ◌++◌, length, Option, Some}
+use Rattle.std.specs.Prelude.{None}
 use Rattle.escape_stream.specs.Items.{items}
 use Rattle.terminal.specs.Headline.{StandsAt, final_log}
 use Rattle.terminal.specs.Terminal.{Terminal}
 use Rattle.terminal.specs.Written.{IsAt, IsCounted, IsPartRead}
 use Rattle.terminal_steps.specs.Items.{ParserNeedsMemory, SomeNeedsMemory}
-use Rattle.terminal_table.specs.History.{History, Piece, Look}
+use Rattle.terminal_steps.specs.Memory.{TakesMemory}
+use Rattle.terminal_table.specs.History.{History, Piece, Look, Looked, pieces}
 use Rattle.terminal_table.specs.Meaning.{View}
 use Rattle.terminal_viewers.specs.Updates.{Standing, in_chunks, looks, standing_after}
 
@@ -14,10 +16,18 @@ abbrev pub NeedsNumber : {W : Type 0} → (W → List ℕ → ℕ) → Terminal 
 NeedsNumber width_of t history =
     (view : View) → StandsAt t view → 2 ^ 64 ≤ (final_log width_of t view history).log.number
 
--- the number after the history fits in 64 bits
-abbrev pub HasNumbers : {W : Type 0} → (W → List ℕ → ℕ) → Terminal W → History → Type 0
-HasNumbers width_of t history =
-    (view : View) → StandsAt t view → (final_log width_of t view history).log.number < 2 ^ 64
+-- A look at a standing is refused memory, and `failed` is whether the terminal has failed then. It isn't plain: the
+-- first change of its held run has a number, and memory may be refused before a later one that has none.
+abbrev pub LookTakesMemory : (List ℕ → ℕ) → Standing → Bool → Type 0
+LookTakesMemory width_of s failed =
+    (s.view.state.modes ≢ None) × TakesMemory width_of s.view s.log Looked failed
+
+-- the number after a look fits in 64 bits; or the look is refused memory, after which the terminal has failed or hasn't
+abbrev pub HasNumbersToLook : {W : Type 0} → (W → List ℕ → ℕ) → Terminal W → Bool → Type 0
+HasNumbersToLook width_of t failed =
+    (view : View) → StandsAt t view
+    → ((final_log width_of t view (Look ∷ [])).log.number < 2 ^ 64)
+    ⊎ LookTakesMemory (width_of t.surface.grid.widths) (record { view = view; log = t.surface.log }) failed
 
 -- Feeding bytes at a standing is refused memory, and `failed` is whether the surface has failed then: the parser takes
 -- memory for the bytes; or the terminal takes memory for one of their texts and actions, after those before it, which
@@ -56,12 +66,23 @@ pub record LastTakesMemory (width_of : List ℕ → ℕ) (start : Standing) (his
   pub failed : Bool
   pub takes : FeedTakesMemory width_of (standing_after width_of start history) last failed
 
--- Memory is refused when a part of an input was read: feeding the bytes of the last read is refused memory, or the
--- number after all that was read, with its looks, fits in 64 bits.
+-- the look after all that was read is refused memory; no bytes are read after it
+pub record LastLookTakesMemory (width_of : List ℕ → ℕ) (start : Standing) (history_of : List ℕ → History)
+    (read : List ℕ) : Type 0 where
+  pub history : History
+  pub rest : History
+  pub whole : history_of read ≡ history ++ Look ∷ rest
+  pub last : pieces rest ≡ []
+  pub takes : LookTakesMemory width_of (standing_after width_of start history) true
+
+-- Memory is refused when a part of an input was read: feeding the bytes of the last read is refused memory; or on a
+-- terminal that isn't plain the look after them is; or the number after all that was read, with its looks, fits in 64
+-- bits.
 pub record IsRefusedMemory (width_of : List ℕ → ℕ) (start : Standing) (history_of : List ℕ → History) (input : List ℕ)
     (left : Option (List ℕ)) : Type 0 where
   pub part : IsPartRead input left
   pub why : LastTakesMemory width_of start history_of part.read
+      ⊎ LastLookTakesMemory width_of start history_of part.read
       ⊎ ((standing_after width_of start (history_of part.read)).log.log.number < 2 ^ 64)
 
 -- reading an input is refused memory on a terminal, from whatever standing, if the input is known

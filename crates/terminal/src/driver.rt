@@ -179,8 +179,8 @@ pub fn show_on<R: Read, T: Write, W: Widths + Drop>(
     ensures failed { IsErrOf result (RunError.Terminal TerminalError.Failed) → ⊥ }
     ensures number { IsErrOf result (RunError.Terminal TerminalError.Number)
         → ReadingNeedsNumber (λ w. W.width_of w) one_look terminal.old (R.remaining reader.old.inner) }
-    // Where memory is refused, feeding the last read is refused it, or the number after all that was read, with the
-    // look, fits in 64 bits.
+    // Where memory is refused, feeding the last read is refused it; or on a terminal that isn't plain the look after it
+    // is; or the number after all that was read, with the look, fits in 64 bits.
     ensures memory { IsErrOf result (RunError.Terminal TerminalError.Memory)
         → ReadingIsRefusedMemory (λ w. W.width_of w) one_look terminal.old (R.remaining reader.old.inner)
         (R.remaining reader.new.inner) }

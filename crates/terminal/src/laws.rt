@@ -70,7 +70,9 @@ pub fn single_actions<W: Widths>()
         → state_in now ≡ row_done (W.width_of before.surface.grid.widths) action (state_in before) }
     ensures log { (before : Terminal W) (now : Terminal W) (view : View) (action : StreamAction) → IsIdle before
         → StandsAt before view → IsWritable (action ∷ []) → GoesBy (λ w. W.width_of w) before now (alone action)
-        → now.surface.log ≡ fold step_of_kept before.surface.log (row_logged action (state_in before)) }
+        → now.surface.log
+        ≡ fold step_of_kept before.surface.log
+        (row_logged (W.width_of before.surface.grid.widths) action (state_in before)) }
     ensures idle { (before : Terminal W) (now : Terminal W) (view : View) (action : StreamAction) → IsIdle before
         → StandsAt before view → IsWritable (action ∷ []) → GoesBy (λ w. W.width_of w) before now (alone action)
         → IsIdle now }

@@ -5,7 +5,7 @@ ghost use Rattle.cell_base.specs.ScreenSize.{IsScreenSize};
 ghost use Rattle.screen_log.specs.Log.{most_due, new_log};
 ghost use Rattle.cell_surface.specs.Surface.{number_of};
 ghost use Rattle.terminal.specs.Headline.{StandsAt, GoesBy};
-ghost use Rattle.terminal.specs.Refusals.{HasNumbers, NeedsMemory, NeedsNumber};
+ghost use Rattle.terminal.specs.Refusals.{HasNumbersToLook, NeedsMemory, NeedsNumber};
 ghost use Rattle.terminal.specs.Terminal.{IsSpelled};
 ghost use Rattle.terminal.specs.Viewing.{patch_from, update_for};
 ghost use Rattle.terminal_steps.specs.ProfileView.{modes_of};
@@ -123,7 +123,7 @@ impl<W: Widths + Drop> Terminal<W> {
         ensures number { IsErrOf result TerminalError.Number → NeedsNumber (λ w. W.width_of w) self.old (Look ∷ []) }
         ensures memory { IsErrOf result TerminalError.Memory → self.new.surface.is_failed ≡ true }
         ensures numbered { (IsErrOf result TerminalError.Number → ⊥) → self.old.is_failed ≡ false
-            → HasNumbers (λ w. W.width_of w) self.old (Look ∷ []) }
+            → HasNumbersToLook (λ w. W.width_of w) self.old self.new.is_failed }
         ensures err { OnErr result (IsTrue self.new.is_failed) }
         ensures nothing { self.old.run ≡ [] → self.old.is_failed ≡ false → IsOk result }
         ensures width { OnOk result (self.new.surface.grid.width ≡ self.old.surface.grid.width) }
@@ -189,7 +189,7 @@ impl<W: Widths + Drop> Terminal<W> {
         ensures memory { IsErrOf result TerminalError.Memory → self.new.is_failed ≡ true
             → self.new.surface.is_failed ≡ true }
         ensures numbered { (IsErrOf result TerminalError.Number → ⊥) → self.old.is_failed ≡ false
-            → HasNumbers (λ w. W.width_of w) self.old (Look ∷ []) }
+            → HasNumbersToLook (λ w. W.width_of w) self.old self.new.is_failed }
         ensures stays { IsTrue self.old.is_failed → IsTrue self.new.is_failed }
         ensures nothing { self.old.run ≡ [] → self.old.is_failed ≡ false → self.new.is_failed ≡ false }
     {
@@ -232,7 +232,7 @@ impl<W: Widths + Drop> Terminal<W> {
         ensures memory { IsErrOf result TerminalError.Memory → self.new.is_failed ≡ true
             → self.new.surface.is_failed ≡ true }
         ensures numbered { (IsErrOf result TerminalError.Number → ⊥) → self.old.is_failed ≡ false
-            → HasNumbers (λ w. W.width_of w) self.old (Look ∷ []) }
+            → HasNumbersToLook (λ w. W.width_of w) self.old self.new.is_failed }
         ensures stays { IsTrue self.old.is_failed → IsTrue self.new.is_failed }
         ensures nothing { self.old.run ≡ [] → self.old.is_failed ≡ false → self.new.is_failed ≡ false }
     {

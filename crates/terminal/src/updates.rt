@@ -8,7 +8,8 @@ ghost use Rattle.terminal.specs.Live.{IsCountedAt, LastPieceTakesMemory, PiecesN
 ghost use Rattle.terminal.specs.Live.{SendsPartOfLast, SendsPrefix};
 ghost use Rattle.terminal.specs.Written.{LooksNeedNumber, Sends, SendsAll, SendsChunks, SendsChunksOf, SendsFirst};
 ghost use Rattle.terminal.specs.Written.{SendsPart, SendsSome, due_from, number_after, update_count};
-ghost use Rattle.terminal.specs.Refusals.{HasNumbers, IsRefusedMemory, NeedsNumber, ReadingIsRefusedMemory, all_looks};
+ghost use Rattle.terminal.specs.Refusals.{HasNumbersToLook, IsRefusedMemory, NeedsNumber, ReadingIsRefusedMemory};
+ghost use Rattle.terminal.specs.Refusals.{all_looks};
 ghost use Rattle.terminal.specs.Watched.{IsUnread, counted, counted_by};
 ghost use Rattle.terminal_table.specs.History.{Look};
 ghost use Rattle.terminal_viewers.specs.Updates.{new_standing, updates};
@@ -49,7 +50,7 @@ fn write_update<T: Write, W: Widths + Drop>(
     ensures number { IsErrOf result (RunError.Terminal TerminalError.Number)
         → NeedsNumber (λ w. W.width_of w) terminal.old (Look ∷ []) }
     ensures memory { IsErrOf result (RunError.Terminal TerminalError.Memory)
-        → HasNumbers (λ w. W.width_of w) terminal.old (Look ∷ []) }
+        → HasNumbersToLook (λ w. W.width_of w) terminal.old terminal.new.is_failed }
 {
     let (next, bytes) = terminal.update(number)?;
     write_and_flush(writer, &bytes)?;

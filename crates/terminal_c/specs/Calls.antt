@@ -7,7 +7,7 @@ use Rattle.cell_base.specs.declared.widths.ProgramWidth.{ProgramWidth}
 use Rattle.cell_surface.specs.Surface.{number_of}
 use Rattle.screen_log.specs.Log.{most_due, new_log}
 use Rattle.terminal.specs.Headline.{GoesBy, StandsAt}
-use Rattle.terminal.specs.Refusals.{HasNumbers, NeedsMemory, NeedsNumber}
+use Rattle.terminal.specs.Refusals.{HasNumbersToLook, NeedsMemory, NeedsNumber}
 use Rattle.terminal.specs.Terminal.{Terminal as TerminalOf}
 use Rattle.terminal.specs.Viewing.{patch_from, update_for}
 use Rattle.terminal_c.specs.Codes.{DONE, FAILED, is_among, MEMORY, NUMBER, OTHER_FAILED, RANGE, SIZE}
@@ -50,7 +50,7 @@ pub record Settles (before after : Terminal) (code : ℕ) : Type 0 where
   pub failed : (code ≡ FAILED) ↔ IsTrue before.is_failed
   pub number : code ≡ NUMBER → NeedsNumber widths before (Look ∷ [])
   pub memory : code ≡ MEMORY → after.surface.is_failed ≡ true
-  pub numbered : (code ≡ NUMBER → ⊥) → before.is_failed ≡ false → HasNumbers widths before (Look ∷ [])
+  pub numbered : (code ≡ NUMBER → ⊥) → before.is_failed ≡ false → HasNumbersToLook widths before after.is_failed
   pub err : (code ≡ DONE → ⊥) → IsTrue after.is_failed
   pub nothing : before.run ≡ [] → before.is_failed ≡ false → code ≡ DONE
   pub size : code ≡ DONE → AreEven after before
@@ -77,7 +77,7 @@ pub record Updates (since : ℕ) (before after : Terminal) (now : ℕ) (bytes : 
   pub err : (code ≡ DONE → ⊥) → after.is_failed ≡ false → GoesBy widths before after (Look ∷ [])
   pub fails : code ≡ NUMBER → IsTrue after.is_failed
   pub memory : code ≡ MEMORY → after.is_failed ≡ true → after.surface.is_failed ≡ true
-  pub numbered : (code ≡ NUMBER → ⊥) → before.is_failed ≡ false → HasNumbers widths before (Look ∷ [])
+  pub numbered : (code ≡ NUMBER → ⊥) → before.is_failed ≡ false → HasNumbersToLook widths before after.is_failed
   pub stays : IsTrue before.is_failed → IsTrue after.is_failed
   pub nothing : before.run ≡ [] → before.is_failed ≡ false → after.is_failed ≡ false
 
@@ -97,7 +97,7 @@ pub record Patches (shown before after : Terminal) (now : ℕ) (bytes : List ℕ
       → GoesBy widths before after (Look ∷ [])
   pub fails : code ≡ NUMBER → IsTrue after.is_failed
   pub memory : code ≡ MEMORY → after.is_failed ≡ true → after.surface.is_failed ≡ true
-  pub numbered : is_among (DONE ∷ MEMORY ∷ []) code ≡ true → HasNumbers widths before (Look ∷ [])
+  pub numbered : is_among (DONE ∷ MEMORY ∷ []) code ≡ true → HasNumbersToLook widths before after.is_failed
   pub nothing : before.run ≡ [] → before.is_failed ≡ false → after.is_failed ≡ false
 
 -- changes are dropped from the log

@@ -1,7 +1,7 @@
 -- What a terminal is asked for is spelled where the table's function is: what xterm itself has for an action holds
 -- nothing that needs an encoding.
 use Rattle.std.proofs.Common.{ℕ, ◌-◌, Bool, true, false}
-use Rattle.std.specs.Prelude.{⊤, ◌==◌, ◌&&◌, ◌||◌, not, nat_lt, min, Option, Some, None, option_map, if◌then◌else◌}
+use Rattle.std.specs.Prelude.{⊤, ◌==◌, ◌&&◌, ◌||◌, not, nat_lt, min, Option, Some, None, if◌then◌else◌}
 use Rattle.cell_base.specs.Screen.{Screen, height}
 use Rattle.csi_codec.specs.Actions as codec
 use Rattle.csi_codec.specs.declared.cursors.Cursor.{Cursor}
@@ -18,15 +18,18 @@ use Rattle.csi_codec.specs.declared.modes.DecPrivateModeCode.{DecPrivateModeCode
 use Rattle.csi_codec.specs.declared.modes.DecPrivateModeCode.TheVariants as dec
 use Rattle.csi_codec.specs.declared.modes.Mode.{Mode}
 use Rattle.csi_codec.specs.declared.modes.Mode.TheVariants as mode
+use Rattle.csi_codec.specs.declared.modes.TerminalMode.TheVariants as ansi
+use Rattle.csi_codec.specs.declared.modes.TerminalModeCode.TheVariants as terminal
 use Rattle.escape_stream.specs.StreamAction.{StreamAction}
 use Rattle.escape_stream.specs.StreamAction as stream
 use Rattle.terminal_table.specs.Functions as table
 use Rattle.terminal_table.specs.Functions.{ControlFunction, function_of}
 use Rattle.terminal_table.specs.Modes.{Modes, Region, region_on}
-use Rattle.terminal_table.specs.Request.{Request, Table, Xterm, Sets, Switches, Replies, ToInitial, ToRegion, ToOrigin}
+use Rattle.terminal_table.specs.Request.{Request, Table, Xterm, Sets, SetsAlone, Switches, Replies, ToRegion, ToFirst, ToSecond, ToShift}
+use Rattle.terminal_table.specs.Charsets.{Ascii}
 use Rattle.terminal_table.specs.Requests.{own_first, own_request, request_of}
 use Rattle.terminal_table.specs.Xterm as own
-use Rattle.terminal_table.specs.XtermRequests.{control_request, cursor_request, edit_request, escape_request, feeds_plainly, home_function, line_feed_request, line_within, mode_request, next_line_request, reset_request, reverse_index_request, rows_above, rows_below, rows_request, scroll_down_request, scroll_up_request, scrolls_plainly, set_request, where_between, where_origin, where_shown, xterm_request}
+use Rattle.terminal_table.specs.XtermRequests.{control_request, cursor_request, edit_request, escape_request, feeds_plainly, home_function, line_feed_request, line_within, mode_request, next_line_request, other_designation, reset_request, reverse_index_request, rows_above, rows_below, rows_request, scrolls_plainly, set_request, where_origin, where_shown, xterm_request}
 use Rattle.terminal_table.specs.Screens as screens
 use Rattle.terminal_table.specs.Screens.{ScreenFunction, is_pending}
 use Rattle.terminal_table.specs.Steps.{active_column, position_text}
@@ -38,23 +41,24 @@ IsSpelledAsked None = ⊤
 IsSpelledAsked (Some (Table function)) = IsSpelledFunction function
 IsSpelledAsked (Some (Xterm function)) = ⊤
 IsSpelledAsked (Some (Sets setting function)) = IsSpelledFunction function
+IsSpelledAsked (Some (SetsAlone setting)) = ⊤
 IsSpelledAsked (Some (Switches function)) = ⊤
 IsSpelledAsked (Some (Replies text)) = ⊤
 
 -- either of two requests
-either : (b : Bool) (x y : Request) → IsSpelledAsked (Some x) → IsSpelledAsked (Some y) → IsSpelledAsked (Some (if b then x else y))
+pub either : (b : Bool) (x y : Request) → IsSpelledAsked (Some x) → IsSpelledAsked (Some y) → IsSpelledAsked (Some (if b then x else y))
 either true x y p q = p
 either false x y p q = q
 
 -- a request or none
-maybe : (b : Bool) (x : Request) → IsSpelledAsked (Some x) → IsSpelledAsked (if b then Some x else None)
+pub maybe : (b : Bool) (x : Request) → IsSpelledAsked (Some x) → IsSpelledAsked (if b then Some x else None)
 maybe true x p = p
 maybe false x p = tt
 
 feed_asked : (r : Region) (s : Screen) → IsSpelledAsked (Some (line_feed_request r s))
 feed_asked r s = either (not (is_pending s) && feeds_plainly r s) (Table table.LineFeed) (Xterm (own.LineFeed r)) tt tt
 
-next_asked : (r : Region) (s : Screen) → IsSpelledAsked (Some (next_line_request r s))
+pub next_asked : (r : Region) (s : Screen) → IsSpelledAsked (Some (next_line_request r s))
 next_asked r s = either (feeds_plainly r s) (Table table.NextRow) (Xterm (own.NextLine r)) tt tt
 
 reverse_asked : (r : Region) (s : Screen) → IsSpelledAsked (Some (reverse_index_request r s))
@@ -64,7 +68,22 @@ reverse_asked r s =
     (either plain (Table table.ReverseIndex) (Xterm (own.ReverseIndex r)) tt tt) tt
 
 control_asked : (r : Region) (s : Screen) (n : ℕ) → IsSpelledAsked (control_request r s n)
-control_asked r s n = maybe (n == 10 || n == 11 || n == 12) (line_feed_request r s) (feed_asked r s)
+control_asked r s n = by_tests (n == 10 || n == 11 || n == 12) (n == 14) (n == 15)
+  where
+    by_tests : (feeds out back : Bool) → IsSpelledAsked (if feeds then Some (line_feed_request r s) else if out then Some (SetsAlone (ToShift true)) else if back then Some (SetsAlone (ToShift false)) else None)
+    by_tests true out back = feed_asked r s
+    by_tests false true back = tt
+    by_tests false false true = tt
+    by_tests false false false = tt
+
+other_asked : (intermediate : Option ℕ) → IsSpelledAsked (other_designation intermediate)
+other_asked None = tt
+other_asked (Some byte) = by_tests (byte == 0x28) (byte == 0x29)
+  where
+    by_tests : (first second : Bool) → IsSpelledAsked (if first then Some (SetsAlone (ToFirst Ascii)) else if second then Some (SetsAlone (ToSecond Ascii)) else None)
+    by_tests true second = tt
+    by_tests false true = tt
+    by_tests false false = tt
 
 escape_asked : (r : Region) (s : Screen) (known : EscCode) → IsSpelledAsked (escape_request r s known)
 escape_asked r s code.Index = feed_asked r s
@@ -112,6 +131,7 @@ shown_asked false function = tt
 
 set_asked : (m : Modes) (r : Region) (known : DecPrivateModeCode) → IsSpelledAsked (set_request m r known)
 set_asked m r dec.OriginMode = home_asked true r
+set_asked m r dec.AutoWrap = tt
 set_asked m r dec.EnableAlternateScreen = shown_asked (not m.alternate) screens.ShowOther
 set_asked m r dec.OptEnableAlternateScreen = shown_asked (not m.alternate) screens.ShowOther
 set_asked m r dec.SaveCursor = tt
@@ -120,6 +140,7 @@ set_asked m r _ = tt
 
 reset_asked : (m : Modes) (r : Region) (known : DecPrivateModeCode) → IsSpelledAsked (reset_request m r known)
 reset_asked m r dec.OriginMode = home_asked false r
+reset_asked m r dec.AutoWrap = tt
 reset_asked m r dec.EnableAlternateScreen = shown_asked m.alternate screens.ShowOther
 reset_asked m r dec.OptEnableAlternateScreen = shown_asked m.alternate screens.ClearAndShowOther
 reset_asked m r dec.SaveCursor = tt
@@ -129,6 +150,8 @@ reset_asked m r _ = tt
 mode_asked : (m : Modes) (r : Region) (value : Mode) → IsSpelledAsked (mode_request m r value)
 mode_asked m r (mode.SetDecPrivateMode (private.Code known)) = set_asked m r known
 mode_asked m r (mode.ResetDecPrivateMode (private.Code known)) = reset_asked m r known
+mode_asked m r (mode.SetMode (ansi.Code terminal.Insert)) = tt
+mode_asked m r (mode.ResetMode (ansi.Code terminal.Insert)) = tt
 mode_asked m r _ = tt
 
 edit_asked : (r : Region) (s : Screen) (value : Edit) → IsSpelledAsked (edit_request r s value)
@@ -149,6 +172,7 @@ xterm_asked : (modes : Modes) (s : Screen) (action : StreamAction) → IsSpelled
 unfolding xterm_request
 xterm_asked modes s (stream.control n) = control_asked (region_on modes s) s n
 xterm_asked modes s (stream.esc (esc.Code known)) = escape_asked (region_on modes s) s known
+xterm_asked modes s (stream.esc (esc.Unspecified intermediate final)) = other_asked intermediate
 xterm_asked modes s (stream.csi (codec.cursor value)) = cursor_asked modes (region_on modes s) s value
 xterm_asked modes s (stream.csi (codec.edit value)) = edit_asked (region_on modes s) s value
 xterm_asked modes s (stream.csi (codec.mode value)) = mode_asked modes (region_on modes s) value

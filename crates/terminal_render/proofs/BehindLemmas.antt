@@ -14,7 +14,7 @@ use Rattle.terminal_table.proofs.StateLemmas.{step_is}
 use Rattle.terminal_render.specs.Spelling.{HaveEncodings, IsSpelledFunction, IsSpelledScreen, IsSpelledState}
 use Rattle.terminal_render.proofs.ChangeLemmas.{encodings_append}
 use Rattle.terminal_render.proofs.LedLemmas.{led_has}
-use Rattle.terminal_render.proofs.ViewLemmas.{moved_has, request_has, request_size}
+use Rattle.terminal_render.proofs.RequestLemmas.{moved_has, request_has, request_size}
 
 pub behind_has : (width_of : List ℕ → ℕ) (function : ControlFunction) (state : State) (new : Screen) → IsState width_of state → Follows width_of (step function state).screen new → IsSpelledFunction function → IsSpelledState state → IsSpelledScreen new
     → HaveEncodings new.width (height new) (led_behind function state.saved state.screen new)

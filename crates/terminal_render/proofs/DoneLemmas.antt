@@ -15,7 +15,7 @@ use Rattle.screen_effects.specs.Display.{Display}
 use Rattle.screen_effects.specs.Strokes.{TextPart, Plain, Control, Stroke, CarriageReturn, LineFeed, Cluster, text_parts, part_strokes, strokes, stroke_on, stroke_done}
 use Rattle.terminal_table.specs.Modes.{SavedCursor}
 use Rattle.terminal_table.specs.Functions.{function_of}
-use Rattle.terminal_table.specs.Steps.{run_step}
+use Rattle.terminal_table.specs.Runs.{run_step}
 use Rattle.terminal_table.specs.History.{Act}
 use Rattle.terminal_table.specs.Meaning.{View, event_done}
 use Rattle.terminal_table.proofs.OtherLemmas.{other_view}

@@ -18,6 +18,8 @@ pub mod TextLemmas
 pub mod DisplayLemmas
 pub mod SpelledPenLemmas
 pub mod ChangeLemmas
+pub mod RequestLemmas
+pub mod RunningLemmas
 pub mod ViewLemmas
 pub mod SequenceLemmas
 pub mod CommandLemmas

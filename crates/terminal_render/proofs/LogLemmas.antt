@@ -23,7 +23,8 @@ use Rattle.terminal_render.proofs.SpelledPenLemmas.{map_some, then_some}
 use Rattle.terminal_render.proofs.ChangeLemmas.{encodings_append}
 use Rattle.terminal_render.proofs.StreamLemmas.{events_spelled}
 use Rattle.terminal_table.proofs.StateLemmas.{HasSize}
-use Rattle.terminal_render.proofs.ViewLemmas.{AreEncoded, settled_size, acted_size, moved_has, event_encoded, event_spelled}
+use Rattle.terminal_render.proofs.RequestLemmas.{acted_size, moved_has}
+use Rattle.terminal_render.proofs.ViewLemmas.{AreEncoded, settled_size, event_encoded, event_spelled}
 
 -- ---- lists
 
@@ -88,8 +89,8 @@ event_keeps width_of v Looked s h p q k =
     let size = settled_size width_of v h in
     moved_has v.state.screen (settled width_of v).state.screen _ (record { wide = sym size.wide; tall = sym size.tall }) (logged_keeps width_of v Looked s h p q k)
 event_keeps width_of v (Resized width tall) s h p q k =
-    let after = fold step_of_kept s (run_logged v) in
-    subst (λ (x : Sized). KeepsSpelled (event_done width_of v (Resized width tall)) x) (sym (fold-append step_of_kept s (run_logged v) (log.Resized (most_due width tall) ∷ [])))
+    let after = fold step_of_kept s (run_logged width_of v) in
+    subst (λ (x : Sized). KeepsSpelled (event_done width_of v (Resized width tall)) x) (sym (fold-append step_of_kept s (run_logged width_of v) (log.Resized (most_due width tall) ∷ [])))
     (emptied _ _ after.log.number after.log.entries)
 event_keeps width_of v (Forgot number) s h p q k = logged_keeps width_of v (Forgot number) s h p q k
 

@@ -1,13 +1,14 @@
 -- Texts without U+0080 to U+009F: two of them joined are one, and so is each cluster of one without C0 controls and DEL.
 use Rattle.std.proofs.Common.{◌≡◌, ℕ, zero, suc, ◌+◌, ◌/◌, ◌%◌, ◌<◌, ◌≤◌, inl, inr, Bool, true, false, List, [], ◌∷◌, ◌++◌, length, map, refl, sym, ap, subst, ◌∙◌, arith, append_assoc, append-nil, length-append}
-use Rattle.std.specs.Prelude.{⊤, ◌⊎◌, ◌==◌, ◌&&◌, ◌||◌, not, nat_le, All, encode_utf8, encode_utf8_all, if◌then◌else◌}
+use Rattle.std.specs.Prelude.{⊤, ◌-◌, ◌⊎◌, ◌==◌, ◌&&◌, ◌||◌, not, nat_le, nat_lt, slice_index_or, All, encode_utf8, encode_utf8_all, if◌then◌else◌}
 use Rattle.std.specs.Char.{IsScalar, is_ascii_control}
 use Rattle.std.specs.List.{AllByRecursion, flat_map, list_all}
-use Rattle.std.proofs.lemmas.Bool.{or_parts, and_parts}
+use Rattle.std.proofs.lemmas.Bool.{or_parts, and_parts, ltb-true}
 use Rattle.std.proofs.lemmas.Bool.Decides.{nat_tests}
 use Rattle.std.proofs.lemmas.List.Elements.{All-cons, All-head, All-nil, All-tail}
 use Rattle.std.proofs.lemmas.List.Folds.{list_all-append}
-use Rattle.std.proofs.lemmas.Str.{IsUtf8-append, IsUtf8-from_ascii, IsUtf8-nil, encodes-append}
+use Rattle.std.proofs.lemmas.Str.{IsUtf8-append, IsUtf8-from_ascii, IsUtf8-nil, chars-encodes, encodes-append}
+use Rattle.std.specs.Str.{chars}
 use Rattle.std.proofs.lemmas.Str.Ascii.{IsAscii-cons, IsAscii-nil}
 use Rattle.text_clusters.specs.Controls.{is_c1, holds_c1}
 use lib.Utf8.{scalar, scalars}
@@ -22,7 +23,9 @@ use Rattle.escape_osc.proofs.C1Lemmas.{holds_c1-cons}
 use Rattle.screen_effects.specs.Strokes.{Stroke, CarriageReturn, LineFeed, Cluster, TextPart, Control, Plain, text_parts, part_strokes, strokes}
 use Rattle.terminal_render.proofs.CharacterLemmas.{IsGood, AreGood, above, no_c1_after, parts_good}
 use Rattle.text_clusters.proofs.CutLemmas.{pieces, first, pieces-nil}
-use Rattle.terminal_table.specs.Turns.{IsPrinted}
+use Rattle.terminal_table.specs.Charsets.{Charset, Ascii, British, Graphics, character_in, graphics, text_in}
+use Rattle.terminal_table.specs.Turns.{IsPrinted, IsRunText}
+use Rattle.terminal_table.proofs.CharsetLemmas.{mapped_scalars}
 use Rattle.terminal_table.proofs.RunLemmas.{character_printed, printed_append}
 use Rattle.text_clusters.proofs.TextLemmas.{graphemes_of}
 use Rattle.terminal_render.specs.Spelling.{IsSpelledText, IsSpelledRun}
@@ -152,6 +155,62 @@ printable_run cs s h = record { spelled = printable_spelled cs s h; printed = pr
 pub spelled_character : (c : ℕ) → IsScalar c → IsPrintable c → IsSpelledText (encode_utf8 c)
 spelled_character c s p = subst IsSpelledText (append-nil (encode_utf8 c)) (printable_spelled (c ∷ []) (ap (λ b. b && true) s) (All-cons IsPrintable c [] p (All-nil IsPrintable)))
 
+-- ---- the characters of a set
+
+-- as a test
+abbrev is_no_c1 : ℕ → Bool
+is_no_c1 c = nat_lt c 128 || nat_lt 0x9F c
+
+told : (c : ℕ) → is_no_c1 c ≡ true → IsNoC1 c
+told c e = by_tests (nat_lt c 128) refl (nat_lt 0x9F c) refl e
+  where
+    by_tests : (a : Bool) → nat_lt c 128 ≡ a → (b : Bool) → nat_lt 0x9F c ≡ b → (a || b) ≡ true → IsNoC1 c
+    by_tests true p b q e = inl (ltb-true c 128 p)
+    by_tests false p true q e = inr (ltb-true 0x9F c q)
+    by_tests false p false q e = cc
+
+one_of : (cs : List ℕ) (i : ℕ) → list_all is_no_c1 cs ≡ true → is_no_c1 (slice_index_or cs i 0x20) ≡ true
+one_of [] i h = refl
+one_of (c ∷ cs) zero h = (and_parts (is_no_c1 c) (list_all is_no_c1 cs) h).0
+one_of (c ∷ cs) (suc i) h = one_of cs i (and_parts (is_no_c1 c) (list_all is_no_c1 cs) h).1
+
+set_no_c1 : (set : Charset) (c : ℕ) → IsNoC1 c → IsNoC1 (character_in set c)
+set_no_c1 Ascii c h = h
+set_no_c1 Graphics c h = by_test (nat_le 0x5F c && nat_le c 0x7E)
+  where
+    by_test : (b : Bool) → IsNoC1 (if b then slice_index_or graphics (c - 0x5F) 0x20 else c)
+    by_test true = told (slice_index_or graphics (c - 0x5F) 0x20) (one_of graphics (c - 0x5F) refl)
+    by_test false = h
+set_no_c1 British c h = by_test (c == 0x23)
+  where
+    by_test : (b : Bool) → IsNoC1 (if b then 0xA3 else c)
+    by_test true = inr (omega arith)
+    by_test false = h
+
+mapped_free : (set : Charset) (cs : List ℕ) → scalars cs ≡ true → scalars (map (character_in set) cs) ≡ true → holds_c1 (encode_utf8_all cs) ≡ false → holds_c1 (encode_utf8_all (map (character_in set) cs)) ≡ false
+mapped_free set [] s m h = h
+mapped_free set (c ∷ cs) s m h =
+    let p = and_parts (scalar c) (scalars cs) s in
+    let q = and_parts (scalar (character_in set c)) (scalars (map (character_in set) cs)) m in
+    character_free (character_in set c) (encode_utf8_all (map (character_in set) cs)) q.0 (set_no_c1 set c (character_no_c1 c (encode_utf8_all cs) p.0 h))
+    ∙ mapped_free set cs p.1 q.1 (no_c1_after (encode_utf8 c) (encode_utf8_all cs) h)
+
+mapped_spelled : (set : Charset) (text : List ℕ) → IsRunText text → IsSpelledText text → IsSpelledText (encode_utf8_all (map (character_in set) (chars text)))
+mapped_spelled set text n t =
+    let u = n.utf8 in
+    let same : chars text ≡ u.0 = ap chars (sym u.1.1) ∙ chars-encodes u.0 u.1.0 in
+    let all = mapped_scalars set text n in
+    record {
+      utf8 = (map (character_in set) (chars text), (all, refl));
+      no_c1 = ap (λ (cs : List ℕ). holds_c1 (encode_utf8_all (map (character_in set) cs))) same
+          ∙ mapped_free set u.0 u.1.0 (ap (λ (cs : List ℕ). scalars (map (character_in set) cs)) (sym same) ∙ all) (ap holds_c1 u.1.1 ∙ t.no_c1);
+    }
+
+pub spelled_in : (set : Charset) (text : List ℕ) → IsRunText text → IsSpelledText text → IsSpelledText (text_in set text)
+spelled_in Ascii text n t = t
+spelled_in Graphics text n t = mapped_spelled Graphics text n t
+spelled_in British text n t = mapped_spelled British text n t
+
 -- ---- clusters
 
 abbrev pub AreSpelledRuns : List (List ℕ) → Type 0
@@ -190,7 +249,7 @@ spelled_graphemes text p =
     subst (λ (t : List ℕ). AreSpelledRuns (graphemes true t)) e
     (subst AreSpelledRuns (sym (graphemes_of cs s)) (each_piece (length cs) cs s (ap holds_c1 e ∙ p.spelled.no_c1) (subst IsPrinted (sym e) p.printed) (omega arith)))
 
-spelled_clusters : (text : List ℕ) → IsSpelledRun text → AreSpelledRuns (clusters text)
+pub spelled_clusters : (text : List ℕ) → IsSpelledRun text → AreSpelledRuns (clusters text)
 spelled_clusters text p = subst AreSpelledRuns (sym (clusters_are text p.spelled.utf8)) (spelled_graphemes text p)
 
 -- ---- strokes

@@ -7,3 +7,6 @@ pub mod RequestLemmas
 pub mod ProfileLemmas
 pub mod LineLemmas
 pub mod SwitchLemmas
+pub mod FrameLemmas
+pub mod WholeRunLemmas
+pub mod RunLemmas

@@ -1,5 +1,5 @@
 -- Why actions are refused memory.
-use Rattle.std.proofs.Common.{◌≡◌, ℕ, ◌<◌, ◌^◌, Bool, true, false, List, [], ◌∷◌, ◌++◌, length, fold, inl, inr, refl, sym, ap, subst, ◌∙◌, arith}
+use Rattle.std.proofs.Common.{◌≡◌, ℕ, ◌<◌, ◌^◌, Bool, true, false, List, [], ◌∷◌, ◌++◌, length, map, fold, inl, inr, refl, sym, ap, subst, ◌∙◌, arith}
 use Rattle.std.specs.Prelude.{◌==◌, ◌⊎◌, Option, if◌then◌else◌}
 use Rattle.std.specs.List.{AllByRecursion}
 use Rattle.std.proofs.lemmas.List.{map-append}
@@ -14,13 +14,13 @@ use Rattle.escape_stream.specs.StreamAction.{StreamAction}
 use Rattle.escape_stream.specs.declared.perform.Halted.{Halted}
 use Rattle.escape_stream.specs.declared.perform.Halted.TheVariants as halted
 use Rattle.escape_stream.proofs.StepLemmas.{takes_some}
-use Rattle.terminal_table.specs.Changes.{run_change}
 use Rattle.terminal_table.specs.History.{Act}
 use Rattle.terminal_table.specs.Logged.{event_logged, events_logged}
 use Rattle.terminal_table.specs.Meaning.{View, event_done}
 use Rattle.terminal_table.specs.Modes.{Modes}
 use Rattle.terminal_table.specs.Request.{Request}
 use Rattle.terminal_table.specs.Requests.{AsksForNothing, request_of}
+use Rattle.terminal_table.specs.Runs.{run_changes_of}
 use Rattle.terminal_table.specs.Turns.{AreEvents}
 use Rattle.terminal_table.proofs.ModesLemmas.{settled_modes}
 use Rattle.terminal_table.proofs.OtherLemmas.{asked_settled, other_logged, other_view}
@@ -57,10 +57,10 @@ quiet_rest f modes v (Single action ∷ done) left all q = quiet_rest f modes (e
 quiet_item : (f : List ℕ → ℕ) (modes : Option Modes) (v : View) (log : Sized) (item : Item) (failed : Bool) → AsksNothing modes item → IsQuiet modes v → TakesMemory f v log (item_event item) failed → ⊥
 quiet_item f modes v log (Text text) failed asks q takes = asks
 quiet_item f modes v log (Single action) failed asks q (inl prints) = let clash : true ≡ false = sym prints ∙ asks.0 in cc
-quiet_item f modes v log (Single action) failed asks q (inr (inl own)) = subst (λ (x : Option Request). TakesOwnMemory x (number_settled v log)) (asked_settled f v action (asked modes v action q asks.1)) own
+quiet_item f modes v log (Single action) failed asks q (inr (inl own)) = subst (λ (x : Option Request). TakesOwnMemory x (number_settled f v log)) (asked_settled f v action (asked modes v action q asks.1)) own
 quiet_item f modes v log (Single action) failed asks q (inr (inr refused)) =
     let logged : event_logged f v (Act action) ≡ []
-    = other_logged f v action asks.0 (asked modes v action q asks.1) ∙ (λ i. if length (q.run i) == 0 then [] else Logged (run_change (q.run i)) ∷ []) in
+    = other_logged f v action asks.0 (asked modes v action q asks.1) ∙ (λ i. if length (q.run i) == 0 then [] else map Logged (run_changes_of f (q.run i) v.state)) in
     let some : 0 < length {A = LogStep} [] = subst (λ (steps : List LogStep). 0 < length steps) logged refused.0 in
     absurd (omega (arith, some))
 

@@ -1,6 +1,6 @@
 -- A log's number never falls, so an event that is refused a number leads past the last one.
 use Rattle.std.proofs.Common.{◌≡◌, ◌≢◌, ℕ, ◌<◌, ◌≤◌, ◌+◌, ◌-◌, ◌^◌, Bool, true, false, List, [], ◌∷◌, ◌++◌, length, map, fold, inl, inr, refl, sym, ap, subst, ◌∙◌, arith}
-use Rattle.std.specs.Prelude.{◌⊎◌, nat_lt, if◌then◌else◌, option_map}
+use Rattle.std.specs.Prelude.{◌==◌, ◌⊎◌, nat_lt, if◌then◌else◌, option_map}
 use Rattle.std.specs.String.{string_bytes}
 use Rattle.std.specs.List.{FoldsTo}
 use Rattle.std.proofs.lemmas.List.Sums.{fold-append}
@@ -16,6 +16,7 @@ use Rattle.terminal_table.specs.History.{Event, Act, Looked, Resized}
 use Rattle.terminal_table.specs.Meaning.{View, event_done, settled, with_size}
 use Rattle.terminal_table.specs.Modes.{resized_modes}
 use Rattle.terminal_table.specs.Requests.{acted_changes}
+use Rattle.terminal_table.specs.Runs.{run_changes_of}
 use Rattle.terminal_table.specs.Logged.{run_logged, event_logged, events_logged}
 use Rattle.terminal_table.specs.Turns.{AreEvents, IsPrinted}
 use Rattle.terminal_table.proofs.JoinLemmas.{events_logged-append}
@@ -56,7 +57,7 @@ pub fold_number : (steps : List LogStep) (s : Sized) → s.log.number ≤ (fold 
 fold_number [] s = omega arith
 fold_number (step ∷ steps) s = let one = step_number s step in let more = fold_number steps (step_of_kept s step) in omega arith
 
-logged_number : (changes : List ChangeValue) (s : Sized) → (fold step_of_kept s (map Logged changes)).log.number ≡ s.log.number + length changes
+pub logged_number : (changes : List ChangeValue) (s : Sized) → (fold step_of_kept s (map Logged changes)).log.number ≡ s.log.number + length changes
 logged_number [] s = omega arith
 logged_number (change ∷ changes) s = logged_number changes (step_of_kept s (Logged change)) ∙ omega arith
 
@@ -79,7 +80,14 @@ module _ {W : Type 0} (width_of : W → List ℕ → ℕ) where
       ∙ ap (λ xs. fold step_of_kept (fold step_of_kept t.surface.log xs) back) (sym (append_nil prefix))
 
   resized_after : (t : TerminalState W) (width height : ℕ) → final_log width_of t (Resized width height ∷ []) ≡ step_of_kept (final_log width_of t (Looked ∷ [])) (log.Resized (most_due width height))
-  resized_after t width height = after_prefix t (run_logged (view_of t)) (log.Resized (most_due width height) ∷ [])
+  resized_after t width height = after_prefix t (run_logged (of t) (view_of t)) (log.Resized (most_due width height) ∷ [])
+
+  -- where the held run has no number, a look has none
+  pub looked_number : (t : TerminalState W) → (length (string_bytes t.held) == 0) ≡ false → 2 ^ 64 ≤ number_of t.surface + length (run_changes_of (of t) (string_bytes t.held) (view_of t).state) → 2 ^ 64 ≤ (final_log width_of t (Looked ∷ [])).log.number
+  looked_number t e past =
+      let all : List ChangeValue = run_changes_of (of t) (string_bytes t.held) (view_of t).state in
+      subst Past (sym (ap (λ (b : Bool). fold step_of_kept t.surface.log ((if b then [] else map Logged all) ++ [])) e ∙ ap (fold step_of_kept t.surface.log) (append_nil (map Logged all))))
+      (subst (λ (n : ℕ). 2 ^ 64 ≤ n) (sym (logged_number all t.surface.log)) past)
 
   -- ---- the log of an action: the log of a look, and then its changes
 
@@ -87,8 +95,8 @@ module _ {W : Type 0} (width_of : W → List ℕ → ℕ) where
       → final_log width_of t (Act action ∷ []) ≡ fold step_of_kept (final_log width_of t (Looked ∷ [])) (map Logged (acted_changes action (settled (of t) (view_of t)).state))
   act_after t action p =
       let changes : List LogStep = map Logged (acted_changes action (settled (of t) (view_of t)).state) in
-      ap (λ (b : Bool). fold step_of_kept t.surface.log ((if b then [] else run_logged (view_of t) ++ changes) ++ [])) p
-      ∙ after_prefix t (run_logged (view_of t)) changes
+      ap (λ (b : Bool). fold step_of_kept t.surface.log ((if b then [] else run_logged (of t) (view_of t) ++ changes) ++ [])) p
+      ∙ after_prefix t (run_logged (of t) (view_of t)) changes
 
   -- where the run has no number, the action has none
   pub looked_past : (t : TerminalState W) (action : StreamAction) → is_print action ≡ false → NeedsNumber width_of t (Looked ∷ []) → NeedsNumber width_of t (Act action ∷ [])
@@ -112,21 +120,21 @@ module _ {W : Type 0} (width_of : W → List ℕ → ℕ) where
       → IsReady width_of t → is_print action ≡ false → TakesMemory (of t) (view_of t) t.surface.log (Act action) failed
   acted_memory t u action failed does refused ready p =
       let had = does ready (tt, tt) in
-      let log : u.surface.log ≡ fold step_of_kept t.surface.log (run_logged (view_of t)) = had.log ∙ ap (fold step_of_kept t.surface.log) (append_nil (run_logged (view_of t))) in
+      let log : u.surface.log ≡ fold step_of_kept t.surface.log (run_logged (of t) (view_of t)) = had.log ∙ ap (fold step_of_kept t.surface.log) (append_nil (run_logged (of t) (view_of t))) in
       by_cause had log (refused had.ready)
     where
-      by_cause : Had width_of t u (Looked ∷ []) → u.surface.log ≡ fold step_of_kept t.surface.log (run_logged (view_of t))
+      by_cause : Had width_of t u (Looked ∷ []) → u.surface.log ≡ fold step_of_kept t.surface.log (run_logged (of t) (view_of t))
           → TakesOwnMemory (asked_in (view_of u).state action) (number_of u.surface) ⊎ IsChangeRefused (acted_changes action (view_of u).state) (number_of u.surface) failed
           → TakesMemory (of t) (view_of t) t.surface.log (Act action) failed
       by_cause had log (inl own) = inr (inl (subst (λ (T : Type 0). T) (λ i. TakesOwnMemory (asked_in (had.view i).state action) (log i).log.number) own))
       by_cause had log (inr change) =
           let changes : List ChangeValue = acted_changes action (settled (of t) (view_of t)).state in
           let same : length (acted_changes action (view_of u).state) ≡ length changes = ap (λ (v : View). length (acted_changes action v.state)) had.view in
-          let logged : event_logged (of t) (view_of t) (Act action) ≡ run_logged (view_of t) ++ map Logged changes = ap (λ (b : Bool). if b then [] else run_logged (view_of t) ++ map Logged changes) p in
-          let size = ap length logged ∙ length-append (run_logged (view_of t)) (map Logged changes) in
+          let logged : event_logged (of t) (view_of t) (Act action) ≡ run_logged (of t) (view_of t) ++ map Logged changes = ap (λ (b : Bool). if b then [] else run_logged (of t) (view_of t) ++ map Logged changes) p in
+          let size = ap length logged ∙ length-append (run_logged (of t) (view_of t)) (map Logged changes) in
           let as_many = length-map changes Logged in
           let some = change.0 in
-          let more = fold_number (run_logged (view_of t)) t.surface.log in
+          let more = fold_number (run_logged (of t) (view_of t)) t.surface.log in
           let number = ap (λ (l : Sized). l.log.number) log in
           let fits = change.1 in
           inr (inr (omega (arith, same, size, as_many, some), omega (arith, more, number, fits), change.2))
@@ -140,6 +148,20 @@ module _ {W : Type 0} (width_of : W → List ℕ → ℕ) where
       by_entries : (cs : List ChangeValue) → s.log.log.entries ≡ cs → (resized_log s.log.log).number < 2 ^ 64
       by_entries [] e = rw e fits
       by_entries (c ∷ cs) e = rw e (let some : s.log.log.entries ≢ [] = λ none. cc in let last : s.log.log.number ≢ 2 ^ 64 - 1 = λ n. numbers (stays, n, some) in omega (arith, fits, last))
+
+  -- where the run has no number, the new size has none
+  pub resized_past : (t : TerminalState W) (width height : ℕ) → NeedsNumber width_of t (Looked ∷ []) → IsReady width_of t → 2 ^ 64 ≤ (final_log width_of t (Resized width height ∷ [])).log.number
+  resized_past t width height needs ready =
+      subst Past (sym (resized_after t width height)) (past_after (final_log width_of t (Looked ∷ [])) (log.Resized (most_due width height) ∷ []) (needs ready (tt, tt)))
+
+  -- nor where the number after it is the last one, and the log isn't empty
+  pub resized_over : (t u : TerminalState W) (width height : ℕ) → Had width_of t u (Looked ∷ []) → u.surface.log.log.number ≡ 2 ^ 64 - 1 → u.surface.log.log.entries ≢ [] → 2 ^ 64 ≤ (final_log width_of t (Resized width height ∷ [])).log.number
+  resized_over t u width height had last some =
+      subst Past (sym (resized_after t width height)) (subst (λ (l : Sized). Past (step_of_kept l (log.Resized (most_due width height)))) had.log (by_entries u.surface.log.log.entries refl))
+    where
+      by_entries : (cs : List ChangeValue) → u.surface.log.log.entries ≡ cs → 2 ^ 64 ≤ (resized_log u.surface.log.log).number
+      by_entries [] e = absurd (some e)
+      by_entries (c ∷ cs) e = rw e (omega (arith, last))
 
   pub resized_had : (t u : TerminalState W) (s : Surface W) (r : TerminalState W) (width height : ℕ) → 0 < width → 0 < height
       → r.surface ≡ s → string_bytes r.held ≡ string_bytes u.held → r.saved ≡ u.saved → r.replies.items ≡ u.replies.items → kept_modes r.modes ≡ option_map (resized_modes width height) (kept_modes u.modes)

@@ -7,6 +7,7 @@ use Rattle.terminal_table.specs.Request as request
 use Rattle.terminal_table.specs.Screens as screens
 use Rattle.terminal_table.specs.Steps.{position_text}
 use Rattle.terminal_table.specs.Xterm as xterm
+use Rattle.terminal_steps.specs.ProfileView.{charset_in}
 use Rattle.terminal_steps.specs.declared.function.Move.{Move}
 use Rattle.terminal_steps.specs.declared.function.Move.TheVariants as move
 use Rattle.terminal_steps.specs.declared.function.ControlFunction.{ControlFunction}
@@ -89,12 +90,18 @@ abbrev pub setting_of : Setting → request.Setting
 setting_of set.Initial = request.ToInitial
 setting_of (set.Region top bottom) = request.ToRegion (record { top = top; bottom = bottom })
 setting_of (set.Origin origin) = request.ToOrigin origin
+setting_of (set.Insert insert) = request.ToInsert insert
+setting_of (set.Autowrap autowrap) = request.ToAutowrap autowrap
+setting_of (set.First charset) = request.ToFirst (charset_in charset)
+setting_of (set.Second charset) = request.ToSecond (charset_in charset)
+setting_of (set.Shift shifted) = request.ToShift shifted
 
 -- what is asked for, and nothing or something, as a function's answer
 abbrev pub asked_for : Region → Request → request.Request
 asked_for region (asked.Table function) = request.Table (table_function function)
 asked_for region (asked.Xterm function) = request.Xterm (own_function region function)
 asked_for region (asked.Sets setting function) = request.Sets (setting_of setting) (table_function function)
+asked_for region (asked.SetsAlone setting) = request.SetsAlone (setting_of setting)
 asked_for region (asked.Switches function) = request.Switches (screen_function function)
 asked_for region (asked.Report row column) = request.Replies (position_text row column)
 

@@ -9,3 +9,4 @@ pub mod Items
 pub mod Cursor
 pub mod Switches
 pub mod CarriesOut
+pub mod RunView

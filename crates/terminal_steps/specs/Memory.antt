@@ -10,7 +10,7 @@ use Rattle.terminal_table.specs.Functions.{RestoreCursor, ReportStatus, ReportPo
 use Rattle.terminal_table.specs.History.{Event, Act}
 use Rattle.terminal_table.specs.Logged.{event_logged, run_logged}
 use Rattle.terminal_table.specs.Meaning.{View, settled}
-use Rattle.terminal_table.specs.Request.{Request, Table, Xterm, Sets, Switches, Replies}
+use Rattle.terminal_table.specs.Request.{Request, Table, Xterm, Sets, SetsAlone, Switches, Replies}
 use Rattle.terminal_table.specs.Requests.{request_of}
 use Rattle.terminal_table.specs.Screens.{ScreenFunction}
 use Rattle.terminal_table.specs.Screens as screens
@@ -65,6 +65,7 @@ TakesOwnMemory None number = ⊥
 TakesOwnMemory (Some (Table function)) number = TakesTableMemory (Some function) number
 TakesOwnMemory (Some (Xterm function)) number = number + 1 < 2 ^ 64
 TakesOwnMemory (Some (Sets setting function)) number = TakesTableMemory (Some function) number
+TakesOwnMemory (Some (SetsAlone setting)) number = ⊥
 TakesOwnMemory (Some (Switches function)) number = TakesScreenMemory function number
 TakesOwnMemory (Some (Replies text)) number = number < 2 ^ 64
 
@@ -73,8 +74,8 @@ abbrev pub asked_in : State → StreamAction → Option Request
 asked_in state action = request_of state.modes state.screen action
 
 -- the log's number once the held run has ended
-abbrev pub number_settled : View → Sized → ℕ
-number_settled view log = (fold step_of_kept log (run_logged view)).log.number
+abbrev pub number_settled : (List ℕ → ℕ) → View → Sized → ℕ
+number_settled width_of view log = (fold step_of_kept log (run_logged width_of view)).log.number
 
 -- An event after a view and a log is refused memory, and `failed` is whether the surface has failed then: the event is
 -- a print, which joins the run; or its control function takes memory of its own; or one of its changes is refused
@@ -82,7 +83,7 @@ number_settled view log = (fold step_of_kept log (run_logged view)).log.number
 abbrev pub TakesMemory : (List ℕ → ℕ) → View → Sized → Event → Bool → Type 0
 TakesMemory width_of view log (Act action) failed =
     (is_print action ≡ true)
-    ⊎ TakesOwnMemory (asked_in (settled width_of view).state action) (number_settled view log)
+    ⊎ TakesOwnMemory (asked_in (settled width_of view).state action) (number_settled width_of view log)
     ⊎ IsChangeRefused (event_logged width_of view (Act action)) log.log.number failed
 TakesMemory width_of view log event failed = IsChangeRefused (event_logged width_of view event) log.log.number failed
 

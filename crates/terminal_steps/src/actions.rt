@@ -193,6 +193,11 @@ fn set_modes(alloc: Global, modes: &mut Modes, setting: Setting)
         Setting::Initial => *modes = initial_modes(alloc),
         Setting::Region(top, bottom) => modes.region = Some(Region { top, bottom }),
         Setting::Origin(origin) => modes.origin = origin,
+        Setting::Insert(insert) => modes.insert = insert,
+        Setting::Autowrap(autowrap) => modes.autowrap = autowrap,
+        Setting::First(charset) => modes.charsets.g0 = charset,
+        Setting::Second(charset) => modes.charsets.g1 = charset,
+        Setting::Shift(shifted) => modes.charsets.shifted = shifted,
     }
 }
 
@@ -218,6 +223,10 @@ fn carry_out_request<W: Widths + Drop>(
         Request::Xterm(function) => perform_xterm(alloc, surface, region, function),
         Request::Sets(setting, function) => {
             carry_out(surface, saved, replies, function)?;
+            set_modes(alloc, modes, setting);
+            Ok(())
+        }
+        Request::SetsAlone(setting) => {
             set_modes(alloc, modes, setting);
             Ok(())
         }
@@ -280,8 +289,8 @@ pub(crate) fn apply<W: Widths + Drop>(
     }
 }
 
-/// A run of printed characters: one change, which puts each of their clusters at the cursor. Refuses as the surface
-/// does.
+/// A run of printed characters on a plain terminal: one change, which puts each of their clusters at the cursor. Refuses
+/// as the surface does.
 pub(crate) fn print<W: Widths + Drop>(
     surface: &mut Surface<W>,
     text: String,

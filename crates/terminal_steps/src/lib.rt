@@ -4,18 +4,21 @@
 //!
 //! - `actions`: what a terminal does with an action, and with a run of printed characters.
 //! - `changes`: changes that are added to a surface, one after another.
+//! - `charsets`: character sets of the profile xterm: which characters are printed for those of a run.
 //! - `control_functions`: which control function an action asks for.
 //! - `cursor`: the changes that set the cursor's position and the pen, and the one that erases to the end of a
 //!   row.
 //! - `cursor_moves`: moves of the cursor: where CUU, CUD, CUB, CUF, CNL, CPL, CHA, VPA, CUP and HT lead.
 //! - `erase`: erasures (ED, EL), scrolls (SU, SD) and the reverse index (RI).
 //! - `error`: why a call of a terminal was refused.
+//! - `fast`: shortcuts, which a reader may skip: each answers for a whole what the general way does part by part.
 //! - `function`: the control functions of a terminal, with their mnemonics.
 //! - `laws`: the law that the texts and actions of a call have the meaning of its bytes.
 //! - `pen`: SGR, and its effect on the pen.
 //! - `profile`: the profiles of a terminal, and what a terminal keeps for its profile.
 //! - `replies`: replies to the application, which asks for them by DSR.
 //! - `requests`: what the profile xterm has for an action, where that differs from the table.
+//! - `runs`: runs of printed characters under xterm, where something may be asked for before a cluster is put.
 //! - `saved`: saved cursors (DECSC, DECRC, SCOSC, SCORC) and the full reset (RIS).
 //! - `screens`: saved cursors of the profile xterm, and its two screens, of which one is shown.
 //! - `state`: the state that a terminal keeps beside its parser, and its changes by events.
@@ -26,17 +29,20 @@
 
 mod actions;
 mod changes;
+mod charsets;
 mod control_functions;
 mod cursor;
 mod cursor_moves;
 mod erase;
 mod error;
+mod fast;
 mod function;
 pub mod laws;
 mod pen;
 mod profile;
 mod replies;
 mod requests;
+mod runs;
 mod saved;
 mod screens;
 mod state;

@@ -10,6 +10,7 @@ ghost use Rattle.screen_difference.specs.FreshCells.{rows_of};
 ghost use Rattle.terminal_table.specs.Modes.{initial_modes, region_on, resized_modes, resized_rows, unsaved_modes};
 ghost use Rattle.terminal_steps.specs.ProfileView.{HaveWholeRows, kept_modes, modes_in, modes_of, saved_modes_in};
 
+use crate::charsets::{Charsets, initial_charsets};
 use crate::saved::SavedCursor;
 use cell_base::{SEQ_ZERO, Widths};
 use cell_line::Line;
@@ -25,8 +26,9 @@ pub enum Profile {
     Plain,
     /// The functions of xterm, for programs that run under `xterm-256color`. It is being built up: it has the functions
     /// of the table; ECH, ICH, DCH, EL 1, ED 1, IL and DL; margins (DECSTBM), at which LF, IND, NEL, RI, SU, SD and the
-    /// moves of the cursor by rows stop or scroll; DECOM; the alternate screen (DEC modes 47, 1047 and 1049); and a
-    /// saved cursor for each screen (also mode 1048). A run of text scrolls the whole screen still.
+    /// moves of the cursor by rows stop or scroll, and so do runs of text; DECOM; insertion (IRM) and autowrap (DECAWM);
+    /// character sets (G0 and G1, SO and SI); the alternate screen (DEC modes 47, 1047 and 1049); and a saved cursor for
+    /// each screen (also mode 1048).
     Xterm,
 }
 
@@ -56,6 +58,7 @@ pub(crate) struct SavedModes {
     pub(crate) pending: bool,
     /// Whether lines counted from the region's top.
     pub(crate) origin: bool,
+    pub(crate) charsets: Charsets,
 }
 
 /// The screen that is not shown.
@@ -75,6 +78,11 @@ pub struct Modes {
     pub(crate) region: Option<Region>,
     /// Whether lines count from the region's top (DECOM).
     pub(crate) origin: bool,
+    /// Whether a character is inserted (IRM).
+    pub(crate) insert: bool,
+    /// Whether a character past the last column goes to the next row (DECAWM).
+    pub(crate) autowrap: bool,
+    pub(crate) charsets: Charsets,
     /// Whether the alternate screen is shown.
     pub(crate) alternate: bool,
     /// What was saved with the cursor that was saved on the screen shown.
@@ -89,6 +97,7 @@ fn unsaved_modes() -> SavedModes
     SavedModes {
         pending: false,
         origin: false,
+        charsets: initial_charsets(),
     }
 }
 
@@ -99,6 +108,9 @@ pub(crate) fn initial_modes(alloc: Global) -> Modes
     Modes {
         region: None,
         origin: false,
+        insert: false,
+        autowrap: true,
+        charsets: initial_charsets(),
         alternate: false,
         with_cursor: unsaved_modes(),
         other: OtherScreen {

@@ -8,16 +8,19 @@ ghost use Rattle.terminal_steps.specs.FunctionView.{asked_for, maybe_asked, scre
 ghost use Rattle.terminal_steps.specs.ProfileView.{modes_in};
 ghost use Rattle.terminal_table.specs.Modes.{region_on};
 ghost use Rattle.terminal_table.specs.Screens.{is_pending};
-ghost use Rattle.terminal_table.specs.XtermRequests.{alternate_function, control_request, cursor_request, edit_request};
+ghost use Rattle.terminal_table.specs.XtermRequests.{alternate_function, control_request, cursor_request};
+ghost use Rattle.terminal_table.specs.XtermRequests.{designation_request, edit_request};
 ghost use Rattle.terminal_table.specs.XtermRequests.{escape_request, feeds_plainly, home_function, is_default};
 ghost use Rattle.terminal_table.specs.XtermRequests.{line_feed_request, line_request, line_within, margins_request};
 ghost use Rattle.terminal_table.specs.XtermRequests.{mode_request, next_line_request, normal_function, origin_request};
+ghost use Rattle.terminal_table.specs.XtermRequests.{other_designation};
 ghost use Rattle.terminal_table.specs.XtermRequests.{position_request, report_request, reset_request};
 ghost use Rattle.terminal_table.specs.XtermRequests.{reverse_index_request, rows_above, rows_below, rows_request};
 ghost use Rattle.terminal_table.specs.XtermRequests.{scroll_down_request, scroll_up_request, scrolls_plainly};
 ghost use Rattle.terminal_table.specs.XtermRequests.{set_request, where_between, where_origin, where_shown};
 ghost use Rattle.terminal_table.specs.XtermRequests.{xterm_request};
 
+use crate::charsets::Charset;
 use crate::cursor_moves::current_column;
 use crate::function::{ControlFunction, Move};
 use crate::profile::{Modes, Region};
@@ -27,7 +30,7 @@ use cell_base::{ColorAttribute, Widths};
 use cell_surface::Surface;
 use csi_codec::{
     CSI, Cursor, DecPrivateMode, DecPrivateModeCode, Edit, EraseInDisplay, EraseInLine, Esc,
-    EscCode, Mode,
+    EscCode, Mode, TerminalMode, TerminalModeCode,
 };
 use escape_stream::{Action, ControlCode};
 
@@ -40,6 +43,16 @@ pub(crate) enum Setting {
     Region(usize, usize),
     /// With lines that count from the region's top, or from the screen's.
     Origin(bool),
+    /// With insertion (IRM), or without.
+    Insert(bool),
+    /// With autowrap (DECAWM), or without.
+    Autowrap(bool),
+    /// With another set as G0.
+    First(Charset),
+    /// With another set as G1.
+    Second(Charset),
+    /// With G1 in use, or G0.
+    Shift(bool),
 }
 
 /// What a terminal of the profile xterm is asked for.
@@ -51,6 +64,8 @@ pub(crate) enum Request {
     Xterm(XtermFunction),
     /// A control function of the table, with which the modes become others.
     Sets(Setting, ControlFunction),
+    /// The modes alone become others.
+    SetsAlone(Setting),
     /// A function of the two screens.
     Switches(ScreenFunction),
     /// CPR (CSI R): the row and the column, counted from 0.
@@ -77,8 +92,8 @@ pub(crate) fn is_pending<W: Widths + Drop>(surface: &Surface<W>) -> bool
     column == width
 }
 
-// Whether a scroll of the region is one of the table.
-fn scrolls_plainly<W: Widths + Drop>(region: Region, surface: &Surface<W>) -> bool
+/// Whether a scroll of the region is one of the table.
+pub(crate) fn scrolls_plainly<W: Widths + Drop>(region: Region, surface: &Surface<W>) -> bool
     requires { surface.now.is_failed ≡ false }
     ensures { result ≡ scrolls_plainly region (shown_by surface.now).screen }
 {
@@ -86,8 +101,8 @@ fn scrolls_plainly<W: Widths + Drop>(region: Region, surface: &Surface<W>) -> bo
     region.top == 0 && region.bottom == height - 1 && is_default(surface.pen().background())
 }
 
-// Whether the table's move to the next row leads to the same one.
-fn feeds_plainly<W: Widths + Drop>(region: Region, surface: &Surface<W>) -> bool
+/// Whether the table's move to the next row leads to the same one.
+pub(crate) fn feeds_plainly<W: Widths + Drop>(region: Region, surface: &Surface<W>) -> bool
     requires { surface.now.is_failed ≡ false }
     ensures { result ≡ feeds_plainly region (shown_by surface.now).screen }
 {
@@ -376,6 +391,7 @@ fn of_set<W: Widths + Drop>(
 {
     match code {
         DecPrivateModeCode::OriginMode => Some(set_origin(region, surface, true)),
+        DecPrivateModeCode::AutoWrap => Some(Request::SetsAlone(Setting::Autowrap(true))),
         DecPrivateModeCode::EnableAlternateScreen | DecPrivateModeCode::OptEnableAlternateScreen =>
             { where_shown(region, !modes.alternate, ScreenFunction::ShowOther) }
         DecPrivateModeCode::SaveCursor => Some(Request::Switches(ScreenFunction::SaveCursor)),
@@ -400,6 +416,7 @@ fn of_reset<W: Widths + Drop>(
 {
     match code {
         DecPrivateModeCode::OriginMode => Some(set_origin(region, surface, false)),
+        DecPrivateModeCode::AutoWrap => Some(Request::SetsAlone(Setting::Autowrap(false))),
         DecPrivateModeCode::EnableAlternateScreen => {
             where_shown(region, modes.alternate, ScreenFunction::ShowOther)
         }
@@ -414,7 +431,7 @@ fn of_reset<W: Widths + Drop>(
     }
 }
 
-// Of a mode: DECOM, and what switches screens.
+// Of a mode: DECOM, DECAWM and IRM, and what switches screens.
 fn of_mode<W: Widths + Drop>(
     modes: &Modes,
     region: Region,
@@ -431,11 +448,17 @@ fn of_mode<W: Widths + Drop>(
         Mode::ResetDecPrivateMode(DecPrivateMode::Code(code)) => {
             of_reset(modes, region, surface, code)
         }
+        Mode::SetMode(TerminalMode::Code(TerminalModeCode::Insert)) => {
+            Some(Request::SetsAlone(Setting::Insert(true)))
+        }
+        Mode::ResetMode(TerminalMode::Code(TerminalModeCode::Insert)) => {
+            Some(Request::SetsAlone(Setting::Insert(false)))
+        }
         _ => None,
     }
 }
 
-// Of a control character: LF, VT and FF.
+// Of a control character: LF, VT, FF, SO and SI.
 fn of_control<W: Widths + Drop>(
     region: Region,
     surface: &Surface<W>,
@@ -449,11 +472,40 @@ fn of_control<W: Widths + Drop>(
         ControlCode::LineFeed | ControlCode::VerticalTab | ControlCode::FormFeed => {
             Some(line_feed(region, surface))
         }
+        ControlCode::ShiftOut => Some(Request::SetsAlone(Setting::Shift(true))),
+        ControlCode::ShiftIn => Some(Request::SetsAlone(Setting::Shift(false))),
         _ => None,
     }
 }
 
-// Of an ESC pair: IND, NEL, RI, RIS, DECSC and DECRC.
+// Of a designation of G0 or G1.
+fn of_designation(region: Region, code: EscCode) -> Option<Request>
+    ensures { maybe_asked region result ≡ designation_request code }
+{
+    let setting = match code {
+        EscCode::DecLineDrawingG0 => Setting::First(Charset::Graphics),
+        EscCode::UkCharacterSetG0 => Setting::First(Charset::British),
+        EscCode::AsciiCharacterSetG0 => Setting::First(Charset::Ascii),
+        EscCode::DecLineDrawingG1 => Setting::Second(Charset::Graphics),
+        EscCode::UkCharacterSetG1 => Setting::Second(Charset::British),
+        EscCode::AsciiCharacterSetG1 => Setting::Second(Charset::Ascii),
+        _ => return None,
+    };
+    Some(Request::SetsAlone(setting))
+}
+
+// Of another set, which is taken for ASCII, after ESC ( or ESC ).
+fn of_other_designation(region: Region, intermediate: Option<u8>) -> Option<Request>
+    ensures { maybe_asked region result ≡ other_designation intermediate }
+{
+    match intermediate {
+        Some(b'(') => Some(Request::SetsAlone(Setting::First(Charset::Ascii))),
+        Some(b')') => Some(Request::SetsAlone(Setting::Second(Charset::Ascii))),
+        _ => None,
+    }
+}
+
+// Of an ESC pair: IND, NEL, RI, RIS, DECSC, DECRC, and designations.
 fn of_escape<W: Widths + Drop>(
     region: Region,
     surface: &Surface<W>,
@@ -469,7 +521,7 @@ fn of_escape<W: Widths + Drop>(
         EscCode::FullReset => { Some(Request::Sets(Setting::Initial, ControlFunction::FullReset)) }
         EscCode::DecSaveCursorPosition => Some(Request::Switches(ScreenFunction::SaveCursor)),
         EscCode::DecRestoreCursorPosition => Some(Request::Switches(ScreenFunction::RestoreCursor)),
-        _ => None,
+        other => of_designation(region, other),
     }
 }
 
@@ -588,6 +640,9 @@ pub(crate) fn xterm_request<W: Widths + Drop>(
     match action {
         Action::Control(code) => of_control(region, surface, *code),
         Action::Esc(Esc::Code(code)) => of_escape(region, surface, *code),
+        Action::Esc(Esc::Unspecified { intermediate, .. }) => {
+            of_other_designation(region, *intermediate)
+        }
         Action::CSI(CSI::Cursor(cursor)) => of_cursor(modes, region, surface, *cursor),
         Action::CSI(CSI::Edit(edit)) => of_edit(region, surface, *edit),
         Action::CSI(CSI::Mode(mode)) => of_mode(modes, region, surface, *mode),

@@ -70,10 +70,12 @@ fn modes_to_save<W: Widths + Drop>(surface: &Surface<W>, modes: &Modes) -> Saved
     requires { surface.now.is_failed ≡ false }
     ensures pending { result.pending ≡ is_pending (shown_by surface.now).screen }
     ensures origin { result.origin ≡ modes.now.origin }
+    ensures charsets { result.charsets ≡ modes.now.charsets }
 {
     SavedModes {
         pending: is_pending(surface),
         origin: modes.origin,
+        charsets: modes.charsets,
     }
 }
 
@@ -242,11 +244,16 @@ fn restore_cursor<W: Widths + Drop>(
         surface.old result surface.new saved.now (modes_in modes.new) }
 {
     let SavedCursor { column, row, pen } = cursor_to_restore(saved)?;
-    let SavedModes { pending, origin } = modes.with_cursor;
+    let SavedModes {
+        pending,
+        origin,
+        charsets,
+    } = modes.with_cursor;
     let column = restored_column(surface, pending, column);
     let row = restored_row(surface, modes, origin, row);
     place_with_pen(alloc, surface, column, row, &pen)?;
     modes.origin = origin;
+    modes.charsets = charsets;
     Ok(())
 }
 
@@ -340,12 +347,17 @@ fn show_and_restore<W: Widths + Drop>(
     surfaces_stay_lawful(surface);
     let lines = copy_lines(alloc, surface.screen_lines())?;
     let SavedCursor { column, row, pen } = cursor_to_restore(&modes.other.cursor)?;
-    let SavedModes { pending, origin } = modes.other.with_cursor;
+    let SavedModes {
+        pending,
+        origin,
+        charsets,
+    } = modes.other.with_cursor;
     let column = restored_column(surface, pending, column);
     let row = restored_row(surface, modes, origin, row);
     show_lines(surface, &mut modes.other.lines, column, row, &pen)?;
     exchange(saved, modes, lines);
     modes.origin = origin;
+    modes.charsets = charsets;
     Ok(())
 }
 

@@ -14,6 +14,7 @@ ghost use Rattle.terminal_table.specs.Replies.{without_replies};
 
 use crate::actions::{apply, print};
 use crate::profile::{Modes, Profile, modes_of, resize_modes};
+use crate::runs::print_xterm;
 use crate::saved::SavedCursor;
 use cell_base::{SequenceNo, Widths};
 use cell_surface::{Surface, SurfaceError};
@@ -85,13 +86,14 @@ impl<W: Widths + Drop> TerminalState<W> {
         self.surface.flush_changes_older_than(number);
     }
 
-    /// The held run ends: its text becomes one change, which the surface may refuse.
+    /// The held run ends: it becomes one change, or several under the profile xterm, which the surface may refuse.
     pub fn settle(&mut self) -> Result<(), SurfaceError>
         ensures done { OnOk result (Does (λ w. W.width_of w) self.old self.new (Looked ∷ [])) }
         ensures failed { IsErrOf result SurfaceError.Failed → IsReady (λ w. W.width_of w) self.old → ⊥ }
         ensures numbers { IsErrOf result SurfaceError.Number → NeedsNumber (λ w. W.width_of w) self.old (Looked ∷ []) }
         ensures memory { IsErrOf result SurfaceError.Memory → (surface_in self.new).is_failed ≡ true }
         ensures numbered { IsErrOf result SurfaceError.Memory → number_of (surface_in self.old) + 1 < 2 ^ 64 }
+        ensures refused { IsErrOf result SurfaceError.Memory → NeedsMemory (λ w. W.width_of w) self.old Looked self.new }
         ensures nothing { (view_of self.old).held ≡ [] → IsOk result }
     {
         if self.held.is_empty() {
@@ -99,8 +101,11 @@ impl<W: Widths + Drop> TerminalState<W> {
         }
         let next = self.surface.pooled_text();
         let text = mem::replace(&mut self.held, next);
-        print(&mut self.surface, text)?;
-        Ok(())
+        let alloc = *self.replies.allocator();
+        match &self.modes {
+            None => print(&mut self.surface, text),
+            Some(modes) => print_xterm(alloc, &mut self.surface, modes, text),
+        }
     }
 
     /// Becomes `width` columns wide and `height` rows high, each from 1 to 2^32 - 1. The held run ends first; saved

@@ -13,15 +13,16 @@ use Rattle.escape_stream.specs.StreamAction.{StreamAction, is_print, printed}
 use Rattle.screen_effects.specs.Display.{Display, IsDisplay}
 use Rattle.screen_effects.specs.Effect.{effect, replay}
 use Rattle.screen_effects.specs.Resize.{resized, resized_screen}
-use Rattle.screen_effects.proofs.EffectLaws.{effect_is, replay_is, resized_is}
-use Rattle.terminal_table.specs.Changes.{run_change}
+use Rattle.screen_effects.proofs.EffectLaws.{replay_is, resized_is}
 use Rattle.terminal_table.specs.Requests.{acted_changes}
 use Rattle.terminal_table.specs.History.{History, Event, Act, Looked, Resized, Forgot, events}
 use Rattle.terminal_table.specs.Meaning.{View, settled, event_done, after}
 use Rattle.terminal_table.specs.Logged.{run_logged}
+use Rattle.terminal_table.specs.Runs.{run_changes_of}
 use Rattle.terminal_table.specs.Turns.{Turns, IsView, AreSizes, IsEvent, AreEvents, changes_in, replayed, all_replayed}
-use Rattle.terminal_table.proofs.RunLemmas.{run_step_turns, no_text, text_append}
-use Rattle.terminal_table.proofs.StateLemmas.{run_is, size_is}
+use Rattle.terminal_table.proofs.RunLemmas.{no_text, text_append}
+use Rattle.terminal_table.proofs.RunningLemmas.{run_is, run_step_turns, then_turns}
+use Rattle.terminal_table.proofs.StateLemmas.{size_is}
 use Rattle.terminal_table.proofs.RequestLemmas.{actions_are_logged, actions_keep_states}
 use Rattle.terminal_table.proofs.PrintLemmas.{AllCut, events_are}
 
@@ -60,16 +61,6 @@ pub record Follows (before after : Display) (shown : Screen) : Type 0 where
   pub turns : Turns before after shown
   pub lawful : IsDisplay after
 
-then_turns : (a b c : Display) (s t : Screen) → Turns a b s → Turns b c t → Turns a c t
-then_turns a b c s t x y = record { screen = y.screen; shape = y.shape ∙ x.shape; sizes = λ h. y.sizes (x.sizes h) }
-
-settled_follows : (width_of : List ℕ → ℕ) (v : View) (d : Display) → IsView width_of v → IsDisplay d → d.screen ≡ v.state.screen → Follows d (replay width_of d (changes_in (run_logged v))) (settled width_of v).state.screen
-settled_follows width_of v d h k e = by_test (length v.held == 0) refl
-  where
-    by_test : (b : Bool) → (length v.held == 0) ≡ b → Follows d (replay width_of d (changes_in (run_logged v))) (settled width_of v).state.screen
-    by_test true t = rw t (record { turns = record { screen = e; shape = refl; sizes = λ x. x }; lawful = k })
-    by_test false t = rw t (record { turns = run_step_turns width_of v.held v.state d h.plain h.lawful k e; lawful = effect_is width_of d (run_change v.held) k })
-
 changes-append : (xs ys : List LogStep) → changes_in (xs ++ ys) ≡ changes_in xs ++ changes_in ys
 changes-append [] ys = refl
 changes-append (Logged change ∷ xs) ys = ap (λ cs. change ∷ cs) (changes-append xs ys)
@@ -80,9 +71,19 @@ changes-logged : (changes : List ChangeValue) → changes_in (map Logged changes
 changes-logged [] = refl
 changes-logged (c ∷ cs) = ap (λ xs. c ∷ xs) (changes-logged cs)
 
+settled_follows : (width_of : List ℕ → ℕ) (v : View) (d : Display) → IsView width_of v → IsDisplay d → d.screen ≡ v.state.screen → Follows d (replay width_of d (changes_in (run_logged width_of v))) (settled width_of v).state.screen
+settled_follows width_of v d h k e = by_test (length v.held == 0) refl
+  where
+    changes : List ChangeValue
+    changes = run_changes_of width_of v.held v.state
+
+    by_test : (b : Bool) → (length v.held == 0) ≡ b → Follows d (replay width_of d (changes_in (run_logged width_of v))) (settled width_of v).state.screen
+    by_test true t = rw t (record { turns = record { screen = e; shape = refl; sizes = λ x. x }; lawful = k })
+    by_test false t = rw (t, changes-logged changes) (record { turns = run_step_turns width_of v.held v.state d h.plain h.lawful k e; lawful = replay_is width_of changes d k })
+
 -- the run, and then other changes
-replay_after : (width_of : List ℕ → ℕ) (v : View) (d : Display) (steps : List LogStep) → replay width_of d (changes_in (run_logged v ++ steps)) ≡ replay width_of (replay width_of d (changes_in (run_logged v))) (changes_in steps)
-replay_after width_of v d steps = ap (replay width_of d) (changes-append (run_logged v) steps) ∙ fold-append (effect width_of) d (changes_in (run_logged v)) (changes_in steps)
+replay_after : (width_of : List ℕ → ℕ) (v : View) (d : Display) (steps : List LogStep) → replay width_of d (changes_in (run_logged width_of v ++ steps)) ≡ replay width_of (replay width_of d (changes_in (run_logged width_of v))) (changes_in steps)
+replay_after width_of v d steps = ap (replay width_of d) (changes-append (run_logged width_of v) steps) ∙ fold-append (effect width_of) d (changes_in (run_logged width_of v)) (changes_in steps)
 
 act_follows : (width_of : List ℕ → ℕ) (v : View) (action : StreamAction) (d : Display) → IsView width_of v → IsDisplay d → d.screen ≡ v.state.screen → Follows d (replayed width_of v (Act action) d) (event_done width_of v (Act action)).state.screen
 act_follows width_of v action d h k e = by_test (is_print action) refl
@@ -91,9 +92,9 @@ act_follows width_of v action d h k e = by_test (is_print action) refl
     changes = acted_changes action (settled width_of v).state
 
     first : Display
-    first = replay width_of d (changes_in (run_logged v))
+    first = replay width_of d (changes_in (run_logged width_of v))
 
-    ends : replay width_of d (changes_in (run_logged v ++ map Logged changes)) ≡ replay width_of first changes
+    ends : replay width_of d (changes_in (run_logged width_of v ++ map Logged changes)) ≡ replay width_of first changes
     ends = replay_after width_of v d (map Logged changes) ∙ ap (replay width_of first) (changes-logged changes)
 
     by_test : (b : Bool) → is_print action ≡ b → Follows d (replayed width_of v (Act action) d) (event_done width_of v (Act action)).state.screen
@@ -114,7 +115,7 @@ pub event_follows : (width_of : List ℕ → ℕ) (v : View) (event : Event) (d 
 event_follows width_of v (Act action) d h l k e = act_follows width_of v action d h k e
 event_follows width_of v Looked d h l k e = settled_follows width_of v d h k e
 event_follows width_of v (Resized width height) d h l k e =
-    let first = replay width_of d (changes_in (run_logged v)) in
+    let first = replay width_of d (changes_in (run_logged width_of v)) in
     let s = settled_follows width_of v d h k e in
     subst (λ x. Follows d (resized width height x) (resized_screen width height (settled width_of v).state.screen)) (sym (replay_after width_of v d (log.Resized (most_due width height) ∷ [])))
     (record {

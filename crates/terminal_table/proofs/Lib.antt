@@ -21,4 +21,7 @@ pub mod LedLemmas
 pub mod XtermLemmas
 pub mod SwitchLemmas
 pub mod RequestLemmas
+pub mod CharsetLemmas
+pub mod ClusterLemmas
+pub mod RunningLemmas
 pub mod ModesLemmas

@@ -7,7 +7,7 @@ use Rattle.terminal_table.specs.Facts.{PlainTerminalsStay}
 use Rattle.terminal_table.specs.History.{Event, Act, Looked, Resized, Forgot, events}
 use Rattle.terminal_table.specs.Meaning.{View, settled, event_done}
 use Rattle.terminal_table.specs.Modes.{resized_modes}
-use Rattle.terminal_table.specs.Steps.{run_step}
+use Rattle.terminal_table.specs.Runs.{run_step}
 use Rattle.terminal_table.proofs.RequestLemmas.{plain_modes}
 
 pub settled_modes : (width_of : List ℕ → ℕ) (v : View) → (settled width_of v).state.modes ≡ v.state.modes

@@ -22,9 +22,9 @@ other_view width_of v action p e =
     ap (λ (b : Bool). if b then record v { held = v.held ++ printed action } else record own { state = acted action own.state }) p
     ∙ ap (λ (request : Option Request). record own { state = request_done request own.state }) (asked_settled width_of v action e)
 
-pub other_logged : (width_of : List ℕ → ℕ) (v : View) (action : StreamAction) → is_print action ≡ false → AsksForNothing v.state.modes action → event_logged width_of v (Act action) ≡ run_logged v
+pub other_logged : (width_of : List ℕ → ℕ) (v : View) (action : StreamAction) → is_print action ≡ false → AsksForNothing v.state.modes action → event_logged width_of v (Act action) ≡ run_logged width_of v
 other_logged width_of v action p e =
     let own : View = settled width_of v in
-    ap (λ (b : Bool). if b then [] else run_logged v ++ map Logged (acted_changes action own.state)) p
-    ∙ ap (λ (request : Option Request). run_logged v ++ map Logged (request_changes request own.state)) (asked_settled width_of v action e)
-    ∙ append_nil (run_logged v)
+    ap (λ (b : Bool). if b then [] else run_logged width_of v ++ map Logged (acted_changes action own.state)) p
+    ∙ ap (λ (request : Option Request). run_logged width_of v ++ map Logged (request_changes request own.state)) (asked_settled width_of v action e)
+    ∙ append_nil (run_logged width_of v)

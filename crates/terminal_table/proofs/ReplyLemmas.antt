@@ -11,10 +11,11 @@ use Rattle.terminal_table.specs.History.{History, Piece, Forget, pieces, Event, 
 use Rattle.terminal_table.specs.Logged.{run_logged, event_logged, events_logged, logged}
 use Rattle.terminal_table.specs.Meaning.{View, settled, event_done, after, with_size}
 use Rattle.terminal_table.specs.Replies.{with_taken, without_replies}
-use Rattle.terminal_table.specs.Request.{Request, Table, Xterm, Sets, Switches, Replies, modes_set}
+use Rattle.terminal_table.specs.Request.{Request, Table, Xterm, Sets, SetsAlone, Switches, Replies, modes_set}
 use Rattle.terminal_table.specs.Requests.{acted, acted_changes, request_changes, request_done, request_of}
+use Rattle.terminal_table.specs.Runs.{run_step}
 use Rattle.terminal_table.specs.State.{State}
-use Rattle.terminal_table.specs.Steps.{reply_step, run_step, status_reply, position_reply, step}
+use Rattle.terminal_table.specs.Steps.{reply_step, status_reply, position_reply, step}
 use Rattle.terminal_table.proofs.JoinLemmas.{after_joins, nothing_after, with_stream}
 
 reply_after : (function : ControlFunction) (taken replies : List ℕ) (screen : Screen) → reply_step function (taken ++ replies) screen ≡ taken ++ reply_step function replies screen
@@ -56,6 +57,7 @@ module _ (width_of : List ℕ → ℕ) (taken : List ℕ) where
   step_with (Some (Table function)) state = λ i. record (step function state) { replies = reply_after function taken state.replies state.screen i }
   step_with (Some (Xterm function)) state = refl
   step_with (Some (Sets setting function)) state = λ i. record (step function state) { replies = reply_after function taken state.replies state.screen i; modes = option_map (modes_set setting) state.modes }
+  step_with (Some (SetsAlone setting)) state = refl
   step_with (Some (Switches function)) state = refl
   step_with (Some (Replies text)) state = λ i. record state { replies = append_assoc taken state.replies text i }
 
@@ -64,6 +66,7 @@ module _ (width_of : List ℕ → ℕ) (taken : List ℕ) where
   changes_with (Some (Table function)) state = refl
   changes_with (Some (Xterm function)) state = refl
   changes_with (Some (Sets setting function)) state = refl
+  changes_with (Some (SetsAlone setting)) state = refl
   changes_with (Some (Switches function)) state = refl
   changes_with (Some (Replies text)) state = refl
 
@@ -84,7 +87,7 @@ module _ (width_of : List ℕ → ℕ) (taken : List ℕ) where
 
   one_logged_with : (v : View) (event : Event) → event_logged width_of (with_taken taken v) event ≡ event_logged width_of v event
   one_logged_with v (Act action) =
-      ap (λ (cs : List ChangeValue). if is_print action then [] else run_logged v ++ map Logged cs)
+      ap (λ (cs : List ChangeValue). if is_print action then [] else run_logged width_of v ++ map Logged cs)
       (ap (λ (x : View). acted_changes action x.state) (settled_with v) ∙ changes_with (request_of (settled width_of v).state.modes (settled width_of v).state.screen action) (settled width_of v).state)
   one_logged_with v Looked = refl
   one_logged_with v (Resized width tall) = refl

@@ -9,13 +9,12 @@ use Rattle.terminal_table.specs.Changes.{changes_of}
 use Rattle.terminal_table.specs.Facts.{ActionsAreLogged, ActionsKeepStates}
 use Rattle.terminal_table.specs.Functions.{ControlFunction, function_of}
 use Rattle.terminal_table.specs.Modes.{Modes}
-use Rattle.terminal_table.specs.Request.{Request, Table, Xterm, Sets, Switches, Replies, Setting, modes_set}
+use Rattle.terminal_table.specs.Request.{Request, Table, Xterm, Sets, SetsAlone, Switches, Replies, Setting, modes_set}
 use Rattle.terminal_table.specs.Requests.{AsksForNothing, acted, acted_changes, request_changes, request_done, request_of}
 use Rattle.terminal_table.specs.State.{CanBeShown, State, IsState}
 use Rattle.terminal_table.specs.Steps.{step, step_of}
 use Rattle.terminal_table.specs.Turns.{Turns}
 use Rattle.terminal_table.specs.XtermRequests.{xterm_request}
-use Rattle.cell_base.specs.Screen.{Screen}
 use Rattle.terminal_table.proofs.ScreenLemmas.{set_can}
 use Rattle.terminal_table.proofs.StateLemmas.{step_is}
 use Rattle.terminal_table.proofs.SwitchLemmas.{switched_is, switched_turns}
@@ -28,20 +27,24 @@ request_turns width_of None state d h g e = screen_turns d d.screen state.screen
 request_turns width_of (Some (Table function)) state d h g e = step_turns width_of function state d h g e
 request_turns width_of (Some (Xterm function)) state d h g e = xterm_turns width_of function state d h g e
 request_turns width_of (Some (Sets setting function)) state d h g e = step_turns width_of function state d h g e
+request_turns width_of (Some (SetsAlone setting)) state d h g e = screen_turns d d.screen state.screen e
 request_turns width_of (Some (Switches function)) state d h g e = switched_turns width_of function state d h g e
 request_turns width_of (Some (Replies text)) state d h g e = screen_turns d d.screen state.screen e
+
+-- the modes become others
+modes_are : (width_of : List ℕ → ℕ) (setting : Setting) (state : State) → IsState width_of state → IsState width_of (record state { modes = option_map (modes_set setting) state.modes })
+modes_are width_of setting state h = record { lawful = h.lawful; whole = h.whole; narrow = h.narrow; sound = h.sound; other = by_modes state.modes h.other }
+  where
+    by_modes : (modes : Option Modes) → CanBeShown width_of state.screen modes → CanBeShown width_of state.screen (option_map (modes_set setting) modes)
+    by_modes None f = tt
+    by_modes (Some modes) f = set_can width_of state.screen setting modes h.narrow h.lawful f
 
 pub request_is : (width_of : List ℕ → ℕ) (request : Option Request) (state : State) → IsState width_of state → IsState width_of (request_done request state)
 request_is width_of None state h = h
 request_is width_of (Some (Table function)) state h = step_is width_of function state h
 request_is width_of (Some (Xterm function)) state h = xterm_is width_of function state h
-request_is width_of (Some (Sets setting function)) state h =
-    let is = step_is width_of function state h in
-    record { lawful = is.lawful; whole = is.whole; narrow = is.narrow; sound = is.sound; other = by_modes state.modes is.other }
-  where
-    by_modes : (modes : Option Modes) → CanBeShown width_of (step function state).screen modes → CanBeShown width_of (step function state).screen (option_map (modes_set setting) modes)
-    by_modes None f = tt
-    by_modes (Some modes) f = set_can width_of (step function state).screen setting modes h.narrow (step_is width_of function state h).lawful f
+request_is width_of (Some (Sets setting function)) state h = modes_are width_of setting (step function state) (step_is width_of function state h)
+request_is width_of (Some (SetsAlone setting)) state h = modes_are width_of setting state h
 request_is width_of (Some (Switches function)) state h = switched_is width_of function state h
 request_is width_of (Some (Replies text)) state h = record { lawful = h.lawful; whole = h.whole; narrow = h.narrow; sound = h.sound; other = h.other }
 

@@ -13,11 +13,9 @@ use Rattle.cell_base.specs.Cluster.{clusters}
 use Rattle.cell_base.specs.Screen.{put, put_run}
 use Rattle.escape_framing.specs.Segment.{IsPrintable}
 use Rattle.escape_framing.proofs.Existence.Utf8Lemmas.{Spelled, in_one, in_two, in_three, in_four, spelled}
-use Rattle.screen_effects.specs.Display.{Display, IsDisplay}
+use Rattle.screen_effects.specs.Display.{Display}
 use Rattle.screen_effects.specs.Effect.{effect}
 use Rattle.screen_effects.specs.Strokes.{Plain, Cluster, with_byte, text_parts, part_strokes, strokes, stroke_done}
-use Rattle.terminal_table.specs.State.{State, IsState}
-use Rattle.terminal_table.specs.Steps.{run_step}
 use Rattle.terminal_table.specs.Changes.{run_change}
 use Rattle.terminal_table.specs.Turns.{Turns, IsPrinted, IsRunText}
 use Rattle.terminal_table.proofs.ListLemmas.{append_nil}
@@ -58,9 +56,6 @@ clusters_put width_of (text ∷ texts) d =
 
 pub run_turns : (width_of : List ℕ → ℕ) (text : List ℕ) (d : Display) → IsPrinted text → Turns d (effect width_of d (run_change text)) (put_run width_of d.screen text)
 run_turns width_of text d h = subst (λ s. Turns d (fold (stroke_done width_of) d s) (put_run width_of d.screen text)) (sym (printed_strokes text h)) (clusters_put width_of (clusters text) d)
-
-pub run_step_turns : (width_of : List ℕ → ℕ) (text : List ℕ) (state : State) (d : Display) → IsRunText text → IsState width_of state → IsDisplay d → d.screen ≡ state.screen → Turns d (effect width_of d (run_change text)) (run_step width_of text state).screen
-run_step_turns width_of text state d t p h e = subst (λ s. Turns d (effect width_of d (run_change text)) (put_run width_of s text)) e (run_turns width_of text d t.printed)
 
 -- ---- characters that are printed
 

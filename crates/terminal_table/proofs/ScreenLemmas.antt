@@ -10,8 +10,8 @@ use Rattle.screen_effects.specs.WrittenCells.{IsSoundRow}
 use Rattle.screen_effects.proofs.SoundLemmas.{new_is_sound}
 use Rattle.screen_effects.proofs.StrokeLaws.{new_display_is}
 use Rattle.xterm_table.specs.Follows.{Follows}
-use Rattle.terminal_table.specs.Modes.{AreNew, Modes, initial_modes, other_rows, other_screen}
-use Rattle.terminal_table.specs.Request.{Setting, ToInitial, ToRegion, ToOrigin, modes_set}
+use Rattle.terminal_table.specs.Modes.{AreNew, Modes, other_rows, other_screen}
+use Rattle.terminal_table.specs.Request.{Setting, ToInitial, ToRegion, ToOrigin, ToInsert, ToAutowrap, ToFirst, ToSecond, ToShift, modes_set}
 use Rattle.terminal_table.specs.State.{CanBeShown}
 
 -- ---- the other screen
@@ -89,3 +89,8 @@ pub set_can : (width_of : List ℕ → ℕ) (s : Screen) (setting : Setting) (mo
 set_can width_of s ToInitial modes narrow h f = plain_follows width_of s narrow h
 set_can width_of s (ToRegion region) modes narrow h f = f
 set_can width_of s (ToOrigin origin) modes narrow h f = f
+set_can width_of s (ToInsert insert) modes narrow h f = f
+set_can width_of s (ToAutowrap autowrap) modes narrow h f = f
+set_can width_of s (ToFirst set) modes narrow h f = f
+set_can width_of s (ToSecond set) modes narrow h f = f
+set_can width_of s (ToShift shifted) modes narrow h f = f

@@ -1,6 +1,6 @@
 -- The text of one action, fed where nothing is unfinished and no run is held.
-use Rattle.std.proofs.Common.{◌≡◌, ◌≢◌, ℕ, ◌<◌, Bool, true, false, List, [], ◌∷◌, ◌++◌, length, map, fold, refl, sym, ap, subst, ◌∙◌, arith}
-use Rattle.std.specs.Prelude.{◌==◌, Option, encode_utf8, encode_utf8_all, if◌then◌else◌}
+use Rattle.std.proofs.Common.{◌≡◌, ◌≢◌, ℕ, Bool, true, false, List, [], ◌∷◌, ◌++◌, length, map, fold, refl, ap, ◌∙◌, arith}
+use Rattle.std.specs.Prelude.{◌==◌, Option, encode_utf8, if◌then◌else◌}
 use Rattle.std.specs.Str.{chars}
 use Rattle.std.proofs.lemmas.Bool.Decides.{nat_tests}
 use Rattle.std.proofs.lemmas.Str.{encodes-chars}
@@ -9,20 +9,18 @@ use Rattle.screen_log.specs.LogSteps.{LogStep, Logged}
 use Rattle.escape_framing.specs.Cut.{tail_of}
 use Rattle.escape_framing.specs.Held.{held_of, nothing_held}
 use Rattle.escape_framing.specs.Segment.{Begun}
-use Rattle.escape_stream.specs.StreamAction.{StreamAction, is_print, printed, print, print_string, control, enter, data_byte, exit, command, csi, esc}
-use Rattle.escape_stream.specs.StreamActions.{newly_decided_actions}
+use Rattle.escape_stream.specs.StreamAction.{StreamAction, print, print_string, control, enter, data_byte, exit, command, csi, esc}
 use Rattle.escape_stream.specs.StreamText.{stream_text}
 use Rattle.escape_stream.specs.StreamWritable.{IsWritable, read_form, WritableListsReadOn, WritableListsEndOn}
 use Rattle.unicode_segmentation.proofs.TextLemmas.{encode_utf8_nonempty}
 use Rattle.terminal_table.specs.Alone.{IsIdle, alone, row_done, row_logged}
-use Rattle.terminal_table.specs.Changes.{run_change}
 use Rattle.terminal_table.specs.History.{Event, Act, Looked, events}
 use Rattle.terminal_table.specs.Logged.{events_logged, logged}
 use Rattle.terminal_table.specs.Meaning.{View, event_done, after}
 use Rattle.terminal_table.specs.Request.{Request}
 use Rattle.terminal_table.specs.Requests.{request_changes, request_done}
+use Rattle.terminal_table.specs.Runs.{run_changes_of, run_step}
 use Rattle.terminal_table.specs.State.{State}
-use Rattle.terminal_table.specs.Steps.{run_step}
 use Rattle.terminal_table.proofs.JoinLemmas.{nothing_after}
 use Rattle.terminal_table.proofs.ListLemmas.{append_nil}
 use Rattle.terminal_table.proofs.RequestLemmas.{terminator_asks}
@@ -59,8 +57,8 @@ module _ (f : List ℕ → ℕ) (state : State) (stream : List ℕ) where
   ended : (text : List ℕ) → (length text == 0) ≡ false → fold (event_done f) (record (at state stream) { held = text }) (Looked ∷ []) ≡ at (run_step f text state) stream
   ended text h = λ i. record (at state stream) { state = if h i then state else run_step f text state }
 
-  ended_logged : (text : List ℕ) → (length text == 0) ≡ false → events_logged f (record (at state stream) { held = text }) (Looked ∷ []) ≡ Logged (run_change text) ∷ []
-  ended_logged text h = λ i. (if h i then [] else Logged (run_change text) ∷ []) ++ []
+  ended_logged : (text : List ℕ) → (length text == 0) ≡ false → events_logged f (record (at state stream) { held = text }) (Looked ∷ []) ≡ map Logged (run_changes_of f text state)
+  ended_logged text h = (λ i. (if h i then [] else map Logged (run_changes_of f text state)) ++ []) ∙ append_nil (map Logged (run_changes_of f text state))
 
   row_is : (action : StreamAction) → IsWritable (action ∷ []) → fold (event_done f) (at state stream) (read_events action) ≡ at (row_done f action state) stream
   unfolding Rattle.terminal_table.specs.Functions.function_of
@@ -81,7 +79,7 @@ module _ (f : List ℕ → ℕ) (state : State) (stream : List ℕ) where
   row_is (csi a) w = refl
   row_is (esc e) w = refl
 
-  row_logged_is : (action : StreamAction) → IsWritable (action ∷ []) → events_logged f (at state stream) (read_events action) ≡ row_logged action state
+  row_logged_is : (action : StreamAction) → IsWritable (action ∷ []) → events_logged f (at state stream) (read_events action) ≡ row_logged f action state
   unfolding Rattle.terminal_table.specs.Functions.function_of
   row_logged_is (print character) w = ended_logged (encode_utf8 character) (some_bytes character)
   row_logged_is (print_string text) w =
@@ -95,7 +93,7 @@ module _ (f : List ℕ → ℕ) (state : State) (stream : List ℕ) where
   row_logged_is exit w = absurd w.0
   row_logged_is (command c) w =
       let s : State = row_done f (command c) state in
-      let own : List LogStep = row_logged (command c) state in
+      let own : List LogStep = row_logged f (command c) state in
       ap (λ (request : Option Request). own ++ (map Logged (request_changes request s) ++ [])) (terminator_asks s.modes s.screen) ∙ append_nil own
   row_logged_is (csi a) w = append_nil _
   row_logged_is (esc e) w = append_nil _
@@ -124,7 +122,7 @@ module _ (whole : IdleIsWhole) (reads : WritableListsReadOn) where
   pub single_state : (f : List ℕ → ℕ) (view : View) (action : StreamAction) → IsIdle view → IsWritable (action ∷ []) → (after f view (alone action)).state ≡ row_done f action view.state
   single_state f view action idle w = ap (λ v. v.state) (shown f view action idle w)
 
-  pub single_logged : (f : List ℕ → ℕ) (view : View) (action : StreamAction) → IsIdle view → IsWritable (action ∷ []) → logged f view (alone action) ≡ row_logged action view.state
+  pub single_logged : (f : List ℕ → ℕ) (view : View) (action : StreamAction) → IsIdle view → IsWritable (action ∷ []) → logged f view (alone action) ≡ row_logged f action view.state
   single_logged f view action idle w =
       ap (events_logged f view) (single_events view action idle w)
       ∙ ap (λ v. events_logged f v (read_events action)) (same view idle)

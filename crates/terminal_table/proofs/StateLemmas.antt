@@ -4,7 +4,7 @@ use Rattle.std.specs.Prelude.{All, Option, Some, None, option_map}
 use Rattle.std.proofs.lemmas.List.{length-replicate}
 use Rattle.cell_base.specs.declared.attributes.LineAttribute.TheVariants.{SingleWidthLine}
 use Rattle.cell_base.specs.Row.{Row, plain_row, space}
-use Rattle.cell_base.specs.Screen.{Screen, IsScreen, height}
+use Rattle.cell_base.specs.Screen.{Screen, IsScreen, height, put_run}
 use Rattle.cell_base.specs.WholeRow.{IsWhole}
 use Rattle.screen_change.specs.ChangeValue.{ChangeValue}
 use Rattle.screen_effects.specs.Display.{Display, IsDisplay, new_display}
@@ -19,7 +19,8 @@ use Rattle.terminal_table.specs.Modes.{AreNew, Modes, other_screen, resized_mode
 use Rattle.terminal_table.specs.State.{CanBeShown, State, IsState, new_state_with}
 use Rattle.xterm_table.specs.Follows.{Follows}
 use Rattle.terminal_table.specs.Functions.{ControlFunction}
-use Rattle.terminal_table.specs.Steps.{step, run_step}
+use Rattle.terminal_table.specs.Runs.{screen_alone}
+use Rattle.terminal_table.specs.Steps.{step}
 use Rattle.terminal_table.specs.Changes.{changes, run_change}
 use Rattle.terminal_table.specs.Meaning.{with_size}
 use Rattle.terminal_table.specs.Turns.{IsRunText}
@@ -29,10 +30,10 @@ use Rattle.terminal_table.proofs.SoundLemmas.{changes_utf8, replay_sound}
 use Rattle.terminal_table.proofs.TurnLemmas.{function_turns}
 
 -- a display that shows a screen
-abbrev display_on : Screen → Display
+abbrev pub display_on : Screen → Display
 display_on screen = record { screen = screen; sizes = replicate (height screen) SingleWidthLine; shape = None }
 
-display_on_is : (width_of : List ℕ → ℕ) (state : State) → IsState width_of state → IsDisplay (display_on state.screen)
+pub display_on_is : (width_of : List ℕ → ℕ) (state : State) → IsState width_of state → IsDisplay (display_on state.screen)
 display_on_is width_of state h = record { lawful = h.lawful; whole = h.whole; sized = length-replicate (height state.screen) SingleWidthLine }
 
 -- ---- sizes
@@ -94,15 +95,18 @@ step_is width_of function state h =
     (replay_sound width_of h.narrow all before d (changes_utf8 function state.saved state.screen) h.sound) turns.screen
     (other_still width_of all state (step function state).screen h turns.screen)
 
-pub run_is : (width_of : List ℕ → ℕ) (text : List ℕ) (state : State) → IsRunText text → IsState width_of state → IsState width_of (run_step width_of text state)
-run_is width_of text state t h =
-    let before : Display = display_on state.screen in
-    let d = display_on_is width_of state h in
-    let run : ChangeValue = run_change text in
-    let turns = run_turns width_of text before t.printed in
-    shown_is width_of (effect width_of before run) (run_step width_of text state) h.narrow (effect_is width_of before run d)
-    (effect_is_sound width_of before run h.narrow d t.utf8 h.sound) turns.screen
-    (other_still width_of (run ∷ []) state (run_step width_of text state).screen h turns.screen)
+-- ---- a text of a run that is put, on a state with a screen alone
+
+pub put_size : (width_of : List ℕ → ℕ) (text : List ℕ) (s : Screen) → IsRunText text → IsState width_of (screen_alone s) → HasSize (put_run width_of s text) s
+put_size width_of text s t h =
+    turned_size width_of (run_change text ∷ []) s (put_run width_of s text) (display_on_is width_of (screen_alone s) h) (run_turns width_of text (display_on s) t.printed).screen
+
+pub put_is : (width_of : List ℕ → ℕ) (text : List ℕ) (s : Screen) → IsRunText text → IsState width_of (screen_alone s) → IsState width_of (screen_alone (put_run width_of s text))
+put_is width_of text s t h =
+    let before : Display = display_on s in
+    let d = display_on_is width_of (screen_alone s) h in
+    shown_is width_of (effect width_of before (run_change text)) (screen_alone (put_run width_of s text)) h.narrow (effect_is width_of before (run_change text) d)
+    (effect_is_sound width_of before (run_change text) h.narrow d t.utf8 h.sound) (run_turns width_of text before t.printed).screen tt
 
 -- another size of the other screen
 fitted_length : {A : Type 0} (other : A) (size : ℕ) (xs : List A) → length (fitted other size xs) ≡ size

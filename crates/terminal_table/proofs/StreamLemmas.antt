@@ -4,12 +4,12 @@ use Rattle.std.specs.Prelude.{All, ◌==◌, nat_lt, if◌then◌else◌}
 use Rattle.std.proofs.lemmas.List.Elements.{All-cons, All-head, All-nil, All-tail}
 use Rattle.cell_base.specs.Cluster.{clusters}
 use Rattle.cell_base.specs.Row.{Row}
-use Rattle.cell_base.specs.Screen.{Screen, IsScreen, height, scrolled, carriage_return, write_columns, cluster_columns, put}
+use Rattle.cell_base.specs.Screen.{Screen, IsScreen, height, scrolled, carriage_return, write_columns, cluster_columns, put, put_run}
 use Rattle.cell_base.proofs.LawfulScreens.{first_row}
 use Rattle.screen_difference.specs.Prints.{PlacedText, strokes_print, strokes_scroll}
 use Rattle.terminal_table.specs.History.{History, Event, Looked, events}
 use Rattle.terminal_table.specs.Meaning.{View, settled, event_done, after}
-use Rattle.terminal_table.specs.Steps.{run_step}
+use Rattle.terminal_table.specs.Runs.{run_screen, run_step}
 use Rattle.terminal_table.specs.Turns.{IsView, AreSizes, IsEvent, AreEvents}
 use Rattle.terminal_table.specs.Bounds.{fresh_after, PlainStreamsPrintAThird, NarrowStreamsPrintAsMany}
 use Rattle.terminal_table.specs.Prints.{IsPlain, IsPlainEvent, ArePlainEvents, ends_run, event_prints, events_print, read, run_ended, run_strokes}
@@ -25,26 +25,26 @@ both_parts P (x ∷ xs) ys h = let rest = both_parts P xs ys (All-tail P x (xs +
 
 module _ (width_of : List ℕ → ℕ) (olds : List Row) (most : ℕ) (Kept : List Row → Type 0) (Printed : PlacedText → Type 0) (grow : TextsGrow width_of olds most Kept Printed) where
   -- a run that ends
-  run_grows : (view : View) → strokes_scroll width_of view.state.screen (run_strokes view) ≡ false → Kept view.state.screen.rows → All Printed (strokes_print width_of view.state.screen (run_strokes view))
+  run_grows : (view : View) → strokes_scroll width_of view.state.screen (run_strokes view) ≡ false → run_screen view.state.modes width_of view.state.screen view.held ≡ put_run width_of view.state.screen view.held → Kept view.state.screen.rows → All Printed (strokes_print width_of view.state.screen (run_strokes view))
       → Grows olds most Kept view.state.screen.rows (settled width_of view).state.screen.rows (length (strokes_print width_of view.state.screen (run_strokes view)))
-  run_grows view still k p = by_test (length view.held == 0)
+  run_grows view still put k p = by_test (length view.held == 0)
     where
       texts : ℕ
       texts = length (strokes_print width_of view.state.screen (run_strokes view))
 
       by_test : (b : Bool) → Grows olds most Kept view.state.screen.rows (if b then view.state else run_step width_of view.held view.state).screen.rows texts
       by_test true = record { kept = k; bound = omega arith }
-      by_test false = clusters_grow width_of olds most Kept Printed grow (clusters view.held) view.state.screen still k p
+      by_test false = subst (λ (s : Screen). Grows olds most Kept view.state.screen.rows s.rows texts) (sym put) (clusters_grow width_of olds most Kept Printed grow (clusters view.held) view.state.screen still k p)
 
   -- an event changes no row by itself
   event_grows : (view : View) (event : Event) → IsPlainEvent width_of view event → Kept view.state.screen.rows → All Printed (event_prints width_of view event)
       → Grows olds most Kept view.state.screen.rows (event_done width_of view event).state.screen.rows (length (event_prints width_of view event))
-  event_grows view event plain k p = subst (λ rows. Grows olds most Kept view.state.screen.rows rows (length (event_prints width_of view event))) (sym plain.rows) (by_test (ends_run event) plain.run p)
+  event_grows view event plain k p = subst (λ rows. Grows olds most Kept view.state.screen.rows rows (length (event_prints width_of view event))) (sym plain.rows) (by_test (ends_run event) plain.run plain.put p)
     where
-      by_test : (b : Bool) → (b ≡ true → strokes_scroll width_of view.state.screen (run_strokes view) ≡ false) → All Printed (if b then strokes_print width_of view.state.screen (run_strokes view) else [])
+      by_test : (b : Bool) → (b ≡ true → strokes_scroll width_of view.state.screen (run_strokes view) ≡ false) → (b ≡ true → run_screen view.state.modes width_of view.state.screen view.held ≡ put_run width_of view.state.screen view.held) → All Printed (if b then strokes_print width_of view.state.screen (run_strokes view) else [])
           → Grows olds most Kept view.state.screen.rows (if b then settled width_of view else view).state.screen.rows (length (if b then strokes_print width_of view.state.screen (run_strokes view) else []))
-      by_test true still q = run_grows view (still refl) k q
-      by_test false still q = stays olds most Kept view.state.screen.rows k
+      by_test true still put q = run_grows view (still refl) (put refl) k q
+      by_test false still put q = stays olds most Kept view.state.screen.rows k
 
   pub events_grow : (es : List Event) (view : View) → ArePlainEvents width_of view es → Kept view.state.screen.rows → All Printed (events_print width_of view es)
       → Grows olds most Kept view.state.screen.rows (fold (event_done width_of) view es).state.screen.rows (length (events_print width_of view es))
@@ -61,7 +61,7 @@ module _ (width_of : List ℕ → ℕ) (olds : List Row) (most : ℕ) (Kept : Li
 
 -- ---- screens stay as wide
 
-put_width : (width_of : List ℕ → ℕ) (s : Screen) (text : List ℕ) → (put width_of s text).width ≡ s.width
+pub put_width : (width_of : List ℕ → ℕ) (s : Screen) (text : List ℕ) → (put width_of s text).width ≡ s.width
 put_width width_of s text = by_test (nat_lt s.width (s.column + length (cluster_columns width_of s text))) (s.row + 1 == height s)
   where
     by_test : (next last : Bool) → (write_columns (cluster_columns width_of s text) (if next then carriage_return (if last then scrolled s else record s { row = s.row + 1 }) else s)).width ≡ s.width
@@ -73,12 +73,12 @@ puts_width : (width_of : List ℕ → ℕ) (texts : List (List ℕ)) (s : Screen
 puts_width width_of [] s = refl
 puts_width width_of (text ∷ texts) s = puts_width width_of texts (put width_of s text) ∙ put_width width_of s text
 
-run_width : (width_of : List ℕ → ℕ) (view : View) → (settled width_of view).state.screen.width ≡ view.state.screen.width
-run_width width_of view = by_test (length view.held == 0)
+run_width : (width_of : List ℕ → ℕ) (view : View) → run_screen view.state.modes width_of view.state.screen view.held ≡ put_run width_of view.state.screen view.held → (settled width_of view).state.screen.width ≡ view.state.screen.width
+run_width width_of view put = by_test (length view.held == 0)
   where
     by_test : (b : Bool) → (if b then view.state else run_step width_of view.held view.state).screen.width ≡ view.state.screen.width
     by_test true = refl
-    by_test false = puts_width width_of (clusters view.held) view.state.screen
+    by_test false = ap (λ (s : Screen). s.width) put ∙ puts_width width_of (clusters view.held) view.state.screen
 
 -- the laws of views: events leave lawful views, and a stream has lawful events
 abbrev pub EventsKeepViews : Type 0
@@ -95,15 +95,15 @@ event_width : EventsKeepViews → (width_of : List ℕ → ℕ) (view : View) (e
     → (event_done width_of view event).state.screen.width ≡ view.state.screen.width
 event_width keep width_of view event h k plain =
     same_width (event_done width_of view event).state.screen (run_ended width_of view event).state.screen (keep width_of view event h k).lawful.lawful (lawful (ends_run event)) plain.rows
-    ∙ width (ends_run event)
+    ∙ width (ends_run event) plain.put
   where
     lawful : (b : Bool) → IsScreen (if b then settled width_of view else view).state.screen
     lawful true = (keep width_of view Looked h tt).lawful.lawful
     lawful false = h.lawful.lawful
 
-    width : (b : Bool) → (if b then settled width_of view else view).state.screen.width ≡ view.state.screen.width
-    width true = run_width width_of view
-    width false = refl
+    width : (b : Bool) → (b ≡ true → run_screen view.state.modes width_of view.state.screen view.held ≡ put_run width_of view.state.screen view.held) → (if b then settled width_of view else view).state.screen.width ≡ view.state.screen.width
+    width true put = run_width width_of view (put refl)
+    width false put = refl
 
 -- a view that is lawful, on a screen of some width
 record IsAsWide (width_of : List ℕ → ℕ) (view : View) (width : ℕ) : Type 0 where

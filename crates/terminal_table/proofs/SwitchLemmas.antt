@@ -1,6 +1,6 @@
 -- What the functions of the two screens leave: screens of the same size, lawful both of them; and what is logged leads to
 -- the one that is shown.
-use Rattle.std.proofs.Common.{◌≡◌, ℕ, ◌+◌, ◌-◌, ◌<◌, ◌≤◌, Bool, true, false, List, [], length, map, replicate, refl, sym, ap, subst, ◌∙◌, arith}
+use Rattle.std.proofs.Common.{◌≡◌, ℕ, ◌-◌, ◌<◌, ◌≤◌, Bool, true, false, List, [], length, map, replicate, refl, sym, ap, subst, ◌∙◌, arith}
 use Rattle.std.specs.Prelude.{All, ◌==◌, ◌&&◌, min, nat_lt, Option, Some, None, option_map, if◌then◌else◌}
 use Rattle.cell_base.specs.Row.{Row, space}
 use Rattle.cell_base.specs.Screen.{Screen, IsScreen, height}

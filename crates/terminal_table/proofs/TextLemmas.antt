@@ -1,5 +1,5 @@
 -- Prints in turn are one text.
-use Rattle.std.proofs.Common.{◌≡◌, ℕ, List, [], ◌∷◌, ◌++◌, map, fold, refl, sym, ap, ◌∙◌, append_assoc}
+use Rattle.std.proofs.Common.{◌≡◌, ℕ, List, [], ◌∷◌, ◌++◌, map, fold, sym, ◌∙◌, append_assoc}
 use Rattle.std.specs.Prelude.{encode_utf8, encode_utf8_all}
 use Rattle.escape_stream.specs.StreamAction.{print}
 use Rattle.terminal_table.specs.History.{Event, Act}

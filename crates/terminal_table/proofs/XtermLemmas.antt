@@ -2,7 +2,6 @@
 use Rattle.std.proofs.Common.{◌≡◌, ℕ, ◌+◌, ◌-◌, Bool, true, false, List, refl, sym, subst, ◌∙◌, arith}
 use Rattle.std.specs.Prelude.{◌==◌, min, if◌then◌else◌}
 use Rattle.cell_base.specs.Row.{Column, Row, space}
-use Rattle.cell_base.specs.Attributes.{Attributes}
 use Rattle.cell_base.specs.Screen.{Screen, height}
 use Rattle.screen_difference.proofs.RegionLemmas.{rest_stay, region_positions, screen_is_shown}
 use Rattle.screen_difference.proofs.SpaceLemmas.{sound_space}

@@ -5,11 +5,10 @@ use Rattle.escape_framing.specs.Held.{held_of, nothing_held}
 use Rattle.escape_stream.specs.StreamAction.{StreamAction, is_print, printed}
 use Rattle.escape_stream.specs.StreamText.{stream_text}
 use Rattle.terminal_table.specs.State.{State}
-use Rattle.terminal_table.specs.Steps.{run_step}
-use Rattle.terminal_table.specs.Changes.{run_change}
 use Rattle.terminal_table.specs.Requests.{acted, acted_changes}
 use Rattle.terminal_table.specs.History.{History, Piece, Look}
 use Rattle.terminal_table.specs.Meaning.{View}
+use Rattle.terminal_table.specs.Runs.{run_changes_of, run_step}
 
 -- nothing of the stream is unfinished, and no run is held
 pub record IsIdle (view : View) : Type 0 where
@@ -26,7 +25,6 @@ row_done width_of action state =
     if is_print action then run_step width_of (printed action) state else acted action state
 
 -- the changes that the action's row of the table logs
-abbrev pub row_logged : StreamAction → State → List LogStep
-row_logged action state =
-    if is_print action then Logged (run_change (printed action)) ∷ []
-    else map Logged (acted_changes action state)
+abbrev pub row_logged : (List ℕ → ℕ) → StreamAction → State → List LogStep
+row_logged width_of action state =
+    map Logged (if is_print action then run_changes_of width_of (printed action) state else acted_changes action state)

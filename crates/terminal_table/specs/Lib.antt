@@ -1,3 +1,4 @@
+pub mod Charsets
 pub mod Modes
 pub mod State
 pub mod Functions
@@ -8,6 +9,7 @@ pub mod Meaning
 pub mod Logged
 pub mod Samples
 pub mod Turns
+pub mod RunTurns
 pub mod Alone
 pub mod Replies
 pub mod Prints
@@ -18,4 +20,5 @@ pub mod Screens
 pub mod Request
 pub mod XtermRequests
 pub mod Requests
+pub mod Runs
 pub mod Facts

@@ -4,8 +4,8 @@ use Rattle.escape_stream.specs.StreamAction.{StreamAction, is_print, printed}
 use Rattle.screen_effects.specs.Resize.{resized_screen}
 use Rattle.terminal_table.specs.Modes.{Modes, resized_modes}
 use Rattle.terminal_table.specs.State.{State, new_state_with}
-use Rattle.terminal_table.specs.Steps.{run_step}
 use Rattle.terminal_table.specs.Requests.{acted}
+use Rattle.terminal_table.specs.Runs.{run_step}
 use Rattle.terminal_table.specs.History.{History, pieces, Event, Act, Looked, Resized, Forgot, events}
 
 -- A state; the stream so far, of which only its unfinished end matters to what follows; and the characters, in UTF-8,

@@ -1,9 +1,10 @@
 -- What the profile xterm keeps beside the screen that is shown.
-use Rattle.std.specs.Prelude.{◌≡◌, ⊤, ℕ, ◌-◌, min, Bool, false, List, [], ◌∷◌, length, map, replicate, Option, Some, None}
+use Rattle.std.specs.Prelude.{◌≡◌, ⊤, ℕ, ◌-◌, min, Bool, true, false, List, [], ◌∷◌, map, replicate, Option, Some, None}
 use Rattle.cell_base.specs.Attributes.{Attributes}
 use Rattle.cell_base.specs.Row.{Row, plain_row}
 use Rattle.cell_base.specs.Screen.{Screen, height}
 use Rattle.screen_effects.specs.Resize.{fitted, resized_row}
+use Rattle.terminal_table.specs.Charsets.{Charsets, initial_charsets}
 
 -- a cursor that was saved: its column, its row, and the pen; a plain terminal saves the width as the column where a wrap
 -- was pending
@@ -12,14 +13,16 @@ pub record SavedCursor : Type 0 where
   pub row : ℕ
   pub pen : Attributes
 
--- what xterm saves with a cursor: whether a wrap was pending, and whether lines counted from the region's top
+-- what xterm saves with a cursor: whether a wrap was pending, whether lines counted from the region's top, and the
+-- character sets
 pub record SavedModes : Type 0 where
   pub pending : Bool
   pub origin : Bool
+  pub charsets : Charsets
 
 -- where nothing was saved
 abbrev pub unsaved_modes : SavedModes
-unsaved_modes = record { pending = false; origin = false }
+unsaved_modes = record { pending = false; origin = false; charsets = initial_charsets }
 
 -- the first and the last row of a region that scrolls, counted from 0
 pub record Region : Type 0 where
@@ -32,11 +35,16 @@ pub record OtherScreen : Type 0 where
   pub cursor : Option SavedCursor
   pub with_cursor : SavedModes
 
--- The region that DECSTBM has set, none where all rows scroll; whether lines count from its top (DECOM); whether the
--- alternate screen is shown; what was saved with the cursor that was saved on the screen shown; and the other screen.
+-- The region that DECSTBM has set, none where all rows scroll; whether lines count from its top (DECOM); whether a
+-- character is inserted (IRM), and whether one past the last column goes to the next row (DECAWM); the character sets;
+-- whether the alternate screen is shown; what was saved with the cursor that was saved on the screen shown; and the other
+-- screen.
 pub record Modes : Type 0 where
   pub region : Option Region
   pub origin : Bool
+  pub insert : Bool
+  pub autowrap : Bool
+  pub charsets : Charsets
   pub alternate : Bool
   pub with_cursor : SavedModes
   pub other : OtherScreen
@@ -46,6 +54,9 @@ abbrev pub initial_modes : Modes
 initial_modes = record {
   region = None;
   origin = false;
+  insert = false;
+  autowrap = true;
+  charsets = initial_charsets;
   alternate = false;
   with_cursor = unsaved_modes;
   other = record { rows = []; cursor = None; with_cursor = unsaved_modes };

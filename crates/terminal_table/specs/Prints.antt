@@ -2,15 +2,16 @@
 use Rattle.std.specs.Prelude.{◌≡◌, ℕ, ◌+◌, ◌==◌, ⊤, Bool, true, false, not, List, [], ◌∷◌, ◌++◌, map, Option, Some}
 use Rattle.std.specs.Prelude.{None, if◌then◌else◌}
 use Rattle.cell_base.specs.Cluster.{clusters}
-use Rattle.cell_base.specs.Screen.{Screen, height}
+use Rattle.cell_base.specs.Screen.{Screen, height, put_run}
 use Rattle.escape_stream.specs.StreamAction.{is_print}
 use Rattle.screen_effects.specs.Strokes.{Stroke, Cluster}
 use Rattle.screen_difference.specs.Prints.{PlacedText, strokes_print, strokes_scroll}
 use Rattle.terminal_table.specs.Functions.{ControlFunction, LineFeed, NextRow, ReverseIndex, ScrollUp, ScrollDown}
 use Rattle.terminal_table.specs.History.{Event, Act, Looked, Resized, Forgot, History, Piece, Look, events}
 use Rattle.terminal_table.specs.Meaning.{View, settled, event_done}
-use Rattle.terminal_table.specs.Request.{Request, Table, Xterm, Sets, Switches, Replies}
+use Rattle.terminal_table.specs.Request.{Request, Table, Xterm, Sets, SetsAlone, Switches, Replies}
 use Rattle.terminal_table.specs.Requests.{request_of}
+use Rattle.terminal_table.specs.Runs.{run_screen}
 use Rattle.terminal_table.specs.State.{State}
 
 -- ---- runs
@@ -69,6 +70,7 @@ request_scrolls None screen = false
 request_scrolls (Some (Table function)) screen = function_scrolls function screen
 request_scrolls (Some (Xterm function)) screen = false
 request_scrolls (Some (Sets setting function)) screen = function_scrolls function screen
+request_scrolls (Some (SetsAlone setting)) screen = false
 request_scrolls (Some (Switches function)) screen = false
 request_scrolls (Some (Replies text)) screen = false
 
@@ -76,11 +78,14 @@ abbrev pub event_scrolls : Event → State → Bool
 event_scrolls (Act action) state = request_scrolls (request_of state.modes state.screen action) state.screen
 event_scrolls _ state = false
 
--- An event by itself changes no row, and neither it nor a run that it ends scrolls.
+-- An event by itself changes no row, and neither it nor a run that it ends scrolls; the run is put as on a plain
+-- terminal.
 pub record IsPlainEvent (width_of : List ℕ → ℕ) (view : View) (event : Event) : Type 0 where
   pub rows : (event_done width_of view event).state.screen.rows ≡ (run_ended width_of view event).state.screen.rows
   pub still : event_scrolls event (run_ended width_of view event).state ≡ false
   pub run : ends_run event ≡ true → strokes_scroll width_of view.state.screen (run_strokes view) ≡ false
+  pub put : ends_run event ≡ true
+      → run_screen view.state.modes width_of view.state.screen view.held ≡ put_run width_of view.state.screen view.held
 
 abbrev pub ArePlainEvents : (List ℕ → ℕ) → View → List Event → Type 0
 ArePlainEvents width_of view [] = ⊤

@@ -7,7 +7,7 @@ use Rattle.terminal_table.specs.Changes.{changes}
 use Rattle.terminal_table.specs.Functions.{ControlFunction, function_of}
 use Rattle.terminal_table.specs.Led.{led}
 use Rattle.terminal_table.specs.Modes.{Modes}
-use Rattle.terminal_table.specs.Request.{Request, Table, Xterm, Sets, Switches, Replies, modes_set}
+use Rattle.terminal_table.specs.Request.{Request, Table, Xterm, Sets, SetsAlone, Switches, Replies, modes_set}
 use Rattle.terminal_table.specs.Screens.{screens_after, screens_changes, screens_of, with_screens}
 use Rattle.terminal_table.specs.State.{State}
 use Rattle.terminal_table.specs.Steps.{step}
@@ -39,6 +39,7 @@ request_done (Some (Table function)) state = step function state
 request_done (Some (Xterm function)) state = record state { screen = xterm_screen function state.screen }
 request_done (Some (Sets setting function)) state =
     record (step function state) { modes = option_map (modes_set setting) state.modes }
+request_done (Some (SetsAlone setting)) state = record state { modes = option_map (modes_set setting) state.modes }
 request_done (Some (Switches function)) state = with_screens (screens_after function (screens_of state)) state
 request_done (Some (Replies text)) state = record state { replies = state.replies ++ text }
 
@@ -48,6 +49,7 @@ request_changes None state = []
 request_changes (Some (Table function)) state = changes function state.saved state.screen
 request_changes (Some (Xterm function)) state = led state.screen (xterm_screen function state.screen)
 request_changes (Some (Sets setting function)) state = changes function state.saved state.screen
+request_changes (Some (SetsAlone setting)) state = []
 request_changes (Some (Switches function)) state = screens_changes function (screens_of state)
 request_changes (Some (Replies text)) state = []
 

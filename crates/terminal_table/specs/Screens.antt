@@ -30,11 +30,15 @@ pub record Screens : Type 0 where
 abbrev pub is_pending : Screen → Bool
 is_pending screen = screen.column == screen.width
 
--- the cursor is saved, with its pen, whether a wrap is pending, and whether lines count from the region's top
+-- the cursor is saved, with its pen, whether a wrap is pending, whether lines count from the region's top, and the
+-- character sets
 abbrev pub cursor_saved : Screens → Screens
 cursor_saved at = record at {
   saved = Some (record { column = active_column at.screen; row = at.screen.row; pen = at.screen.pen });
-  modes = record at.modes { with_cursor = record { pending = is_pending at.screen; origin = at.modes.origin } };
+  modes = record at.modes {
+    with_cursor =
+        record { pending = is_pending at.screen; origin = at.modes.origin; charsets = at.modes.charsets };
+  };
 }
 
 -- the row that is restored: one of the region where lines count from its top, else one of the screen
@@ -58,7 +62,7 @@ cursor_restored at =
         row = restored_row modes.with_cursor.origin (region_on modes at.screen) (height at.screen) cursor.row;
         pen = cursor.pen;
       };
-      modes = record modes { origin = modes.with_cursor.origin };
+      modes = record modes { origin = modes.with_cursor.origin; charsets = modes.with_cursor.charsets };
     }
 
 -- the rows of the two screens change places, with what was saved on each; the cursor and the pen stay

@@ -1,4 +1,4 @@
--- The effect of each control function on a state, and of a run of printed characters.
+-- The effect of each control function on a state.
 use Rattle.std.specs.Prelude.{ℕ, ◌+◌, ◌-◌, ◌*◌, ◌/◌, min, ◌==◌, List, [], ◌∷◌, ◌++◌, length, take, drop, map, Option}
 use Rattle.std.specs.Prelude.{Some, None, slice_index_or, slice_set, decimal, if◌then◌else◌}
 use Rattle.cell_base.specs.declared.color.ColorAttribute.{ColorAttribute}
@@ -6,7 +6,7 @@ use Rattle.cell_base.specs.Attributes.{Attributes, plain}
 use Rattle.cell_base.specs.Color.{attribute_of}
 use Rattle.cell_base.specs.Link.{Link}
 use Rattle.cell_base.specs.Row.{Row, plain_row, closed_end}
-use Rattle.cell_base.specs.Screen.{Screen, height, new_screen, line_feed, carriage_return, put_run}
+use Rattle.cell_base.specs.Screen.{Screen, height, new_screen, line_feed, carriage_return}
 use Rattle.csi_codec.specs.declared.rendition.Sgr.{Sgr}
 use Rattle.csi_codec.specs.declared.rendition.Sgr.TheVariants as sgr
 use Rattle.screen_effects.specs.Effect.{blank_row}
@@ -192,7 +192,3 @@ step function state = record state {
 abbrev pub step_of : Option ControlFunction → State → State
 step_of None state = state
 step_of (Some function) state = step function state
-
--- a run of printed characters: each of its clusters (UAX 29) is put at the cursor
-abbrev pub run_step : (List ℕ → ℕ) → List ℕ → State → State
-run_step width_of text state = record state { screen = put_run width_of state.screen text }

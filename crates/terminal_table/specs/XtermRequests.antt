@@ -1,5 +1,6 @@
--- What the profile xterm has for an action, where that differs from the table. Where a function of the table has the
--- same effect, it is asked for: so a viewer is sent what it is sent for a plain terminal.
+-- What the profile xterm has for an action, where that differs from the table. Moves, and LF, NEL, RI, SU, SD, EL 0 and
+-- ED 0 where they do what they do in the table, are asked for as the table's: so a viewer is sent what it is sent for a
+-- plain terminal.
 use Rattle.std.specs.Prelude.{ℕ, ◌+◌, ◌-◌, ◌==◌, ◌&&◌, ◌||◌, Bool, true, false, not, nat_le, nat_lt, min, Option, Some, None}
 use Rattle.std.specs.Prelude.{if◌then◌else◌}
 use Rattle.cell_base.specs.declared.color.ColorAttribute.{ColorAttribute}
@@ -20,11 +21,15 @@ use Rattle.csi_codec.specs.declared.modes.DecPrivateModeCode.{DecPrivateModeCode
 use Rattle.csi_codec.specs.declared.modes.DecPrivateModeCode.TheVariants as dec
 use Rattle.csi_codec.specs.declared.modes.Mode.{Mode}
 use Rattle.csi_codec.specs.declared.modes.Mode.TheVariants as mode
+use Rattle.csi_codec.specs.declared.modes.TerminalMode.TheVariants as ansi
+use Rattle.csi_codec.specs.declared.modes.TerminalModeCode.TheVariants as terminal
 use Rattle.escape_stream.specs.StreamAction.{StreamAction}
 use Rattle.escape_stream.specs.StreamAction as stream
 use Rattle.terminal_table.specs.Functions as table
 use Rattle.terminal_table.specs.Modes.{Modes, Region, region_on}
-use Rattle.terminal_table.specs.Request.{Request, Table, Xterm, Sets, Switches, Replies, ToInitial, ToRegion, ToOrigin}
+use Rattle.terminal_table.specs.Request.{Request, Table, Xterm, Sets, SetsAlone, Switches, Replies, ToInitial, ToRegion}
+use Rattle.terminal_table.specs.Request.{ToOrigin, ToInsert, ToAutowrap, ToFirst, ToSecond, ToShift}
+use Rattle.terminal_table.specs.Charsets.{Ascii, British, Graphics}
 use Rattle.terminal_table.specs.Screens as screens
 use Rattle.terminal_table.specs.Screens.{ScreenFunction, is_pending}
 use Rattle.terminal_table.specs.Steps.{active_column, position_text}
@@ -154,6 +159,7 @@ normal_function false = screens.RestoreCursor
 -- modes of xterm that are set, and reset (xterm: DEC Private Mode Set, and Reset)
 abbrev pub set_request : Modes → Region → DecPrivateModeCode → Option Request
 set_request modes region dec.OriginMode = Some (origin_request true region)
+set_request modes region dec.AutoWrap = Some (SetsAlone (ToAutowrap true))
 set_request modes region dec.EnableAlternateScreen = where_shown (not modes.alternate) screens.ShowOther
 set_request modes region dec.OptEnableAlternateScreen = where_shown (not modes.alternate) screens.ShowOther
 set_request modes region dec.SaveCursor = Some (Switches screens.SaveCursor)
@@ -162,6 +168,7 @@ set_request modes region _ = None
 
 abbrev pub reset_request : Modes → Region → DecPrivateModeCode → Option Request
 reset_request modes region dec.OriginMode = Some (origin_request false region)
+reset_request modes region dec.AutoWrap = Some (SetsAlone (ToAutowrap false))
 reset_request modes region dec.EnableAlternateScreen = where_shown modes.alternate screens.ShowOther
 reset_request modes region dec.OptEnableAlternateScreen = where_shown modes.alternate screens.ClearAndShowOther
 reset_request modes region dec.SaveCursor = Some (Switches screens.RestoreCursor)
@@ -172,7 +179,28 @@ reset_request modes region _ = None
 
 abbrev pub control_request : Region → Screen → ℕ → Option Request
 control_request region screen number =
-    if number == 10 || number == 11 || number == 12 then Some (line_feed_request region screen) else None
+    if number == 10 || number == 11 || number == 12 then Some (line_feed_request region screen)
+    else if number == 14 then Some (SetsAlone (ToShift true))  -- SO
+    else if number == 15 then Some (SetsAlone (ToShift false))  -- SI
+    else None
+
+-- a set is designated as G0 or G1
+abbrev pub designation_request : EscCode → Option Request
+designation_request code.DecLineDrawingG0 = Some (SetsAlone (ToFirst Graphics))
+designation_request code.UkCharacterSetG0 = Some (SetsAlone (ToFirst British))
+designation_request code.AsciiCharacterSetG0 = Some (SetsAlone (ToFirst Ascii))
+designation_request code.DecLineDrawingG1 = Some (SetsAlone (ToSecond Graphics))
+designation_request code.UkCharacterSetG1 = Some (SetsAlone (ToSecond British))
+designation_request code.AsciiCharacterSetG1 = Some (SetsAlone (ToSecond Ascii))
+designation_request _ = None
+
+-- another set, which is taken for ASCII, after ESC ( or ESC )
+abbrev pub other_designation : Option ℕ → Option Request
+other_designation None = None
+other_designation (Some intermediate) =
+    if intermediate == 0x28 then Some (SetsAlone (ToFirst Ascii))
+    else if intermediate == 0x29 then Some (SetsAlone (ToSecond Ascii))
+    else None
 
 abbrev pub escape_request : Region → Screen → EscCode → Option Request
 escape_request region screen code.Index = Some (line_feed_request region screen)
@@ -181,7 +209,7 @@ escape_request region screen code.ReverseIndex = Some (reverse_index_request reg
 escape_request region screen code.FullReset = Some (Sets ToInitial table.FullReset)
 escape_request region screen code.DecSaveCursorPosition = Some (Switches screens.SaveCursor)  -- DECSC
 escape_request region screen code.DecRestoreCursorPosition = Some (Switches screens.RestoreCursor)  -- DECRC
-escape_request region screen _ = None
+escape_request region screen known = designation_request known
 
 -- moves by rows
 abbrev pub rows_request : Modes → Region → Screen → Cursor → Option Request
@@ -231,12 +259,15 @@ edit_request region screen _ = None
 abbrev pub mode_request : Modes → Region → Mode → Option Request
 mode_request modes region (mode.SetDecPrivateMode (private.Code known)) = set_request modes region known
 mode_request modes region (mode.ResetDecPrivateMode (private.Code known)) = reset_request modes region known
+mode_request modes region (mode.SetMode (ansi.Code terminal.Insert)) = Some (SetsAlone (ToInsert true))  -- IRM
+mode_request modes region (mode.ResetMode (ansi.Code terminal.Insert)) = Some (SetsAlone (ToInsert false))
 mode_request modes region _ = None
 
 -- what an action asks for, if the table alone doesn't say it
 unfoldable pub xterm_request : Modes → Screen → StreamAction → Option Request
 xterm_request modes screen (stream.control number) = control_request (region_on modes screen) screen number
 xterm_request modes screen (stream.esc (esc.Code known)) = escape_request (region_on modes screen) screen known
+xterm_request modes screen (stream.esc (esc.Unspecified intermediate final)) = other_designation intermediate
 xterm_request modes screen (stream.csi (codec.cursor value)) =
     cursor_request modes (region_on modes screen) screen value
 xterm_request modes screen (stream.csi (codec.edit value)) = edit_request (region_on modes screen) screen value

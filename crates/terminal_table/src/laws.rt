@@ -2,7 +2,7 @@
 ghost use Rattle.std.specs.Prelude.{false, ◌≡◌, ℕ, ◌<◌, List, ◌∷◌, ◌++◌, Option, None, []};
 ghost use Rattle.cell_base.specs.Row.{space};
 ghost use Rattle.screen_effects.specs.Display.{Display, IsDisplay};
-ghost use Rattle.screen_effects.specs.Effect.{effect, replay};
+ghost use Rattle.screen_effects.specs.Effect.{replay};
 ghost use Rattle.escape_stream.specs.StreamWritable.{IsWritable};
 ghost use Rattle.terminal_table.specs.Alone.{IsIdle, alone, row_done, row_logged};
 ghost use Rattle.terminal_table.specs.Facts.{ActionsAreLogged, ActionsKeepStates, PlainTerminalsStay};
@@ -17,8 +17,9 @@ ghost use Rattle.terminal_table.specs.Replies.{with_taken, without_replies};
 ghost use Rattle.terminal_table.specs.Modes.{AreNew, Modes};
 ghost use Rattle.terminal_table.specs.Requests.{AsksForNothing, acted, acted_changes};
 ghost use Rattle.terminal_table.specs.State.{State, IsState, new_state, new_state_with};
-ghost use Rattle.terminal_table.specs.Steps.{step, step_of, run_step};
-ghost use Rattle.terminal_table.specs.Changes.{changes, changes_of, run_change};
+ghost use Rattle.terminal_table.specs.Steps.{step, step_of};
+ghost use Rattle.terminal_table.specs.Runs.{run_changes_of, run_step};
+ghost use Rattle.terminal_table.specs.Changes.{changes, changes_of};
 ghost use Rattle.terminal_table.specs.Turns.{Turns, IsRunText, IsView, AreSizes, IsEvent, AreEvents, DecideAlike};
 ghost use Rattle.terminal_table.specs.Turns.{replayed, all_replayed};
 
@@ -40,7 +41,8 @@ pub fn changes_have_the_effect_of_steps()
         (step_of (function_of action) state).screen }
     ensures runs { (width_of : List ℕ → ℕ) (text : List ℕ) (state : State) (display : Display) → IsRunText text
         → IsState width_of state → IsDisplay display → display.screen ≡ state.screen
-        → Turns display (effect width_of display (run_change text)) (run_step width_of text state).screen }
+        → Turns display (replay width_of display (run_changes_of width_of text state))
+        (run_step width_of text state).screen }
 {}
 
 /// What all that stands above asks of the table, for each profile: the changes that are logged for an action turn a
@@ -96,7 +98,8 @@ pub fn other_actions_end_runs()
         → AsksForNothing view.state.modes action
         → event_done width_of view (Act action) ≡ settled width_of view }
     ensures logged { (width_of : List ℕ → ℕ) (view : View) (action : StreamAction) → is_print action ≡ false
-        → AsksForNothing view.state.modes action → event_logged width_of view (Act action) ≡ run_logged view }
+        → AsksForNothing view.state.modes action → event_logged width_of view (Act action)
+        ≡ run_logged width_of view }
 {}
 
 /// Histories leave lawful views, if each size has a column and a row.
@@ -182,7 +185,7 @@ pub fn single_actions_are_their_rows()
     ensures state { (width_of : List ℕ → ℕ) (view : View) (action : StreamAction) → IsIdle view
         → IsWritable (action ∷ []) → (after width_of view (alone action)).state ≡ row_done width_of action view.state }
     ensures logged { (width_of : List ℕ → ℕ) (view : View) (action : StreamAction) → IsIdle view
-        → IsWritable (action ∷ []) → logged width_of view (alone action) ≡ row_logged action view.state }
+        → IsWritable (action ∷ []) → logged width_of view (alone action) ≡ row_logged width_of action view.state }
     ensures idle { (width_of : List ℕ → ℕ) (view : View) (action : StreamAction) → IsIdle view
         → IsWritable (action ∷ []) → IsIdle (after width_of view (alone action)) }
 {

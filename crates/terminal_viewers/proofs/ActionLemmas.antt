@@ -6,6 +6,7 @@ use Rattle.std.specs.Str.{IsUtf8, chars}
 use Rattle.std.proofs.lemmas.List.{map-append}
 use Rattle.std.proofs.lemmas.Str.{encodes-chars}
 use Rattle.cell_base.specs.Cluster.{clusters}
+use Rattle.cell_base.specs.Screen.{put_run}
 use Rattle.csi_codec.specs.declared.rendition.Sgr.{Sgr}
 use Rattle.csi_codec.specs.declared.rendition.Sgr.TheVariants as sgr
 use Rattle.escape_stream.specs.StreamAction as action
@@ -24,6 +25,7 @@ use Rattle.terminal_table.specs.History.{Event, Act}
 use Rattle.terminal_table.specs.Meaning.{View, event_done, settled}
 use Rattle.terminal_table.specs.Modes.{Modes}
 use Rattle.terminal_table.specs.Requests.{acted, request_done, request_of}
+use Rattle.terminal_table.specs.Runs.{run_screen}
 use Rattle.terminal_table.specs.State.{State}
 use Rattle.terminal_table.proofs.ModesLemmas.{plain_event, settled_modes}
 use Rattle.terminal_table.proofs.RunLemmas.{no_clusters}
@@ -138,11 +140,21 @@ module _ (f : List ℕ → ℕ) where
       ∙ (λ i. strokes_print f v.state.screen (map Cluster (clusters (e i))))
       ∙ ap (λ (ts : List (List ℕ)). strokes_print f v.state.screen (map Cluster ts)) no_clusters
 
+  -- a plain terminal's run is put as on one
+  pub plain_put : (v : View) → v.state.modes ≡ None → run_screen v.state.modes f v.state.screen v.held ≡ put_run f v.state.screen v.held
+  plain_put v plain = ap (λ (modes : Option Modes). run_screen modes f v.state.screen v.held) plain
+
+  -- it stays one
+  pub plain_done : (v : View) (actions : List StreamAction) → v.state.modes ≡ None → (actions_done f v actions).state.modes ≡ None
+  plain_done v [] plain = plain
+  plain_done v (a ∷ actions) plain = plain_done (event_done f v (Act a)) actions (plain_event f v (Act a) plain)
+
   quiet_plain : (v : View) (a : StreamAction) → IsBare v → IsQuiet a → IsPlainEvent f v (Act a)
   quiet_plain v a b q = record {
     rows = quiet_rows v a b.plain q;
     still = quiet_still v a b.plain q;
     run = λ _. (λ i. strokes_scroll f v.state.screen (map Cluster (clusters (b.run i)))) ∙ ap (λ (ts : List (List ℕ)). strokes_scroll f v.state.screen (map Cluster ts)) no_clusters;
+    put = λ _. plain_put v b.plain;
   }
 
   quiet_held : (v : View) (a : StreamAction) → IsQuiet a → (event_done f v (Act a)).held ≡ []
@@ -189,7 +201,10 @@ module _ (f : List ℕ → ℕ) where
   unfolding function_of
   run_of_bare v text u still = record {
     prints = append-nil (strokes_print f v.state.screen (map Cluster (clusters text)));
-    plain = (record { rows = refl; still = refl; run = λ e. cc }, (record { rows = quiet_rows holding (control 0) refl nul_quiet; still = quiet_still holding (control 0) refl nul_quiet; run = λ e. still }, tt));
+    plain = (
+      record { rows = refl; still = refl; run = λ e. cc; put = λ e. refl },
+      (record { rows = quiet_rows holding (control 0) refl nul_quiet; still = quiet_still holding (control 0) refl nul_quiet; run = λ e. still; put = λ e. refl }, tt),
+    );
     utf8 = (u, (tt, tt));
   }
     where
@@ -211,7 +226,7 @@ module _ (f : List ℕ → ℕ) where
   unfolding function_of
   characters_plain v [] plain = tt
   characters_plain v (c ∷ cs) plain = (
-    record { rows = refl; still = ap (λ (modes : Option Modes). request_scrolls (request_of modes v.state.screen (print c)) v.state.screen) plain; run = λ e. cc },
+    record { rows = refl; still = ap (λ (modes : Option Modes). request_scrolls (request_of modes v.state.screen (print c)) v.state.screen) plain; run = λ e. cc; put = λ e. plain_put v plain },
     characters_plain (event_done f v (Act (print c))) cs plain,
   )
 

@@ -9,7 +9,7 @@ use Rattle.terminal_render.specs.Effects.{IsReady}
 use Rattle.terminal_viewers.specs.Sessions.{Answer, Update, Patch, Chain, Viewer, answer_bytes, answered, answering, lagging, forgetting, readings, sizes}
 use Rattle.terminal_viewers.specs.Showing.{AllShow, CanAnswer, IsShown}
 use Rattle.terminal_viewers.proofs.HistoryLemmas.{AreSteps, Rests, can_answer_after, repeated-append, rests_after_forgetting, rests_after_look, rests_after_sizes, sizes_are_steps, steps-append, steps_are_sizes}
-use Rattle.terminal_render.proofs.ViewLemmas.{display_on_is}
+use Rattle.terminal_render.proofs.RequestLemmas.{display_on_is}
 use Rattle.terminal_table.specs.Alone.{IsIdle}
 use Rattle.terminal_table.specs.History.{History, Piece, Look, Forget}
 use Rattle.terminal_table.specs.Logged.{logged}

@@ -11,7 +11,7 @@ use Rattle.terminal_viewers.specs.Sessions.{sizes}
 use Rattle.terminal_viewers.specs.Showing.{CanAnswer, IsStep}
 use Rattle.terminal_render.proofs.LogLemmas.{history_keeps}
 use Rattle.terminal_render.proofs.StreamLemmas.{history_spelled}
-use Rattle.terminal_render.proofs.ViewLemmas.{display_on_is}
+use Rattle.terminal_render.proofs.RequestLemmas.{display_on_is}
 use Rattle.terminal_table.specs.Alone.{IsIdle}
 use Rattle.terminal_table.specs.History.{History, Piece, Look, Resize, Forget, pieces, events}
 use Rattle.screen_log.specs.LogSteps.{step_of_kept}

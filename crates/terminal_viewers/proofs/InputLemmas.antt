@@ -12,7 +12,8 @@ use Rattle.terminal_render.specs.Effects.{IsReady}
 use Rattle.terminal_render.specs.Spelling.{HaveEncodings, IsSpelledView}
 use Rattle.terminal_render.proofs.LogLemmas.{history_keeps}
 use Rattle.terminal_render.proofs.StreamLemmas.{history_spelled}
-use Rattle.terminal_render.proofs.ViewLemmas.{new_spelled, display_on_is}
+use Rattle.terminal_render.proofs.RequestLemmas.{display_on_is}
+use Rattle.terminal_render.proofs.ViewLemmas.{new_spelled}
 use Rattle.terminal_table.specs.Alone.{IsIdle}
 use Rattle.terminal_table.specs.History.{Piece}
 use Rattle.terminal_table.specs.Logged.{logged}

@@ -17,10 +17,10 @@ use Rattle.terminal_table.specs.History.{History, Piece, Look, Resize, Forget, p
 use Rattle.terminal_table.specs.Logged.{run_logged, event_logged, events_logged, logged, log_after}
 use Rattle.terminal_table.specs.Meaning.{View, settled, event_done, after}
 use Rattle.terminal_table.specs.Modes.{resized_modes}
-use Rattle.terminal_table.specs.Request.{Request, Table, Xterm, Sets, Switches, Replies}
+use Rattle.terminal_table.specs.Request.{Request, Table, Xterm, Sets, SetsAlone, Switches, Replies}
 use Rattle.terminal_table.specs.Requests.{acted, acted_changes, request_changes, request_done, request_of}
 use Rattle.terminal_table.specs.State.{State}
-use Rattle.terminal_table.specs.Steps.{run_step}
+use Rattle.terminal_table.specs.Runs.{run_step}
 use Rattle.terminal_viewers.specs.Update.{bytes_of, due_or, painted_anew, update_of}
 use Rattle.terminal_viewers.specs.Updates.{Standing, standing_after}
 use Rattle.terminal_viewers.specs.Viewers.{AnswersAs, AreAlike, AreFed, SameIsDue}
@@ -52,6 +52,7 @@ module _ (width_of : List ℕ → ℕ) where
   step_with (Some (Table function)) replies v = record { screen = refl; saved = refl; modes = refl; stream = refl; held = refl }
   step_with (Some (Xterm function)) replies v = record { screen = refl; saved = refl; modes = refl; stream = refl; held = refl }
   step_with (Some (Sets setting function)) replies v = record { screen = refl; saved = refl; modes = refl; stream = refl; held = refl }
+  step_with (Some (SetsAlone setting)) replies v = record { screen = refl; saved = refl; modes = refl; stream = refl; held = refl }
   step_with (Some (Switches function)) replies v = record { screen = refl; saved = refl; modes = refl; stream = refl; held = refl }
   step_with (Some (Replies text)) replies v = record { screen = refl; saved = refl; modes = refl; stream = refl; held = refl }
 
@@ -77,12 +78,13 @@ module _ (width_of : List ℕ → ℕ) where
   changes_with (Some (Table function)) replies state = refl
   changes_with (Some (Xterm function)) replies state = refl
   changes_with (Some (Sets setting function)) replies state = refl
+  changes_with (Some (SetsAlone setting)) replies state = refl
   changes_with (Some (Switches function)) replies state = refl
   changes_with (Some (Replies text)) replies state = refl
 
   logged_with : (replies : List ℕ) (v : View) (event : Event) → event_logged width_of (with_replies replies v) event ≡ event_logged width_of v event
   logged_with replies v (Act action) =
-      ap (λ (cs : List ChangeValue). if is_print action then [] else run_logged v ++ map Logged cs)
+      ap (λ (cs : List ChangeValue). if is_print action then [] else run_logged width_of v ++ map Logged cs)
       (ap (λ (x : View). acted_changes action x.state) (settled_with replies v) ∙ changes_with (request_of (settled width_of v).state.modes (settled width_of v).state.screen action) replies (settled width_of v).state)
   logged_with replies v Looked = refl
   logged_with replies v (Resized width tall) = refl
@@ -128,7 +130,7 @@ module _ (width_of : List ℕ → ℕ) where
   events_change stream [] f v = tt
   events_change stream (Piece bytes ∷ history) f v = acts_change (newly_decided_actions stream bytes) (events (stream ++ bytes) history) v (events_change (stream ++ bytes) history f)
   events_change stream (Look ∷ history) f v =
-      changes-append (run_logged v) (events_logged width_of (settled width_of v) (events stream history)) (run_changes width_of v) (events_change stream history f (settled width_of v))
+      changes-append (run_logged width_of v) (events_logged width_of (settled width_of v) (events stream history)) (run_changes width_of v) (events_change stream history f (settled width_of v))
   events_change stream (Resize width tall ∷ history) f v = absurd f
   events_change stream (Forget number ∷ history) f v = absurd f
 

@@ -16,14 +16,14 @@ use Rattle.screen_difference.specs.Prints.{PlacedText, changes_print, strokes_pr
 use Rattle.screen_effects.specs.WrittenCells.{IsSoundDisplay}
 use Rattle.terminal_viewers.specs.Patch.{patch_changes}
 use Rattle.terminal_viewers.specs.Reading.{CanReadPatch, PatchesAreShown, PatchesArePlain, PatchesLeaveIdle, PatchesPrintFreshCells, patch_for}
-use Rattle.terminal_viewers.proofs.ActionLemmas.{Sends, events_append, plain_append, read_prints}
+use Rattle.terminal_viewers.proofs.ActionLemmas.{Sends, events_append, plain_append, plain_done, plain_put, read_prints}
 use Rattle.terminal_table.proofs.LedLemmas.{DifferencesKeepRest, RegionsHavePositions, ScreensAreShown}
 use Rattle.terminal_viewers.proofs.PrintLemmas.{DifferencesAreStill, DifferencesPrintCells, PrintsJoin, StillJoin, changes_send, patch_is, patch_prints, patch_still}
 use Rattle.terminal_table.specs.Prints.{ArePlainEvents, events_print, prints}
 use Rattle.terminal_render.specs.Effects.{actions_done}
 use Rattle.terminal_render.specs.Lists.{ListTextsHaveTheEffect, ListTextsLeaveIdle}
 use Rattle.terminal_render.specs.Spelling.{HaveEncodings, IsSpelledScreen}
-use Rattle.terminal_render.proofs.ViewLemmas.{display_on_is}
+use Rattle.terminal_render.proofs.RequestLemmas.{display_on_is}
 use Rattle.terminal_table.specs.History.{Act, Event, Looked}
 use Rattle.terminal_table.specs.Meaning.{View, event_done}
 use Rattle.terminal_table.proofs.RunLemmas.{no_clusters}
@@ -118,6 +118,7 @@ module _ (leads : PatchesLead) (spells : PatchesHaveEncodings) (writes : Spelled
               rows = refl;
               still = refl;
               run = λ e. (λ i. strokes_scroll f after.state.screen (map Cluster (clusters (no_run i)))) ∙ ap (λ (ts : List (List ℕ)). strokes_scroll f after.state.screen (map Cluster ts)) no_clusters;
+              put = λ e. plain_put f after (plain_done f viewer (read_form s.actions) can.ready.plain);
             },
             tt,
           ))

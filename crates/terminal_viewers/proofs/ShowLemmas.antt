@@ -20,10 +20,11 @@ use Rattle.screen_effects.specs.Effect.{effect, replay}
 use Rattle.screen_effects.specs.Resize.{resized_screen}
 use Rattle.screen_effects.proofs.EffectLaws.{replay_is, resized_is}
 use Rattle.terminal_table.proofs.StateLemmas.{replay_size}
-use Rattle.terminal_render.proofs.ViewLemmas.{display_on_is}
+use Rattle.terminal_render.proofs.RequestLemmas.{display_on_is}
 use Rattle.terminal_table.specs.Requests.{acted_changes}
 use Rattle.terminal_table.specs.History.{History, Piece, Look, Resize, Forget, Event, Act, Looked, Resized, Forgot, events}
 use Rattle.terminal_table.specs.Logged.{run_logged, event_logged, events_logged, log_after}
+use Rattle.terminal_table.specs.Runs.{run_changes_of}
 use Rattle.terminal_table.specs.Meaning.{View, settled, event_done, after}
 use Rattle.terminal_table.specs.Turns.{IsView, AreSizes, IsEvent, AreEvents, changes_in}
 use Rattle.terminal_table.proofs.EventLemmas.{event_is, event_turns}
@@ -144,24 +145,24 @@ module _ (width_of : List ℕ → ℕ) where
   repeated_at (Forgot number) screen = screen
 
   -- for bytes that are fed, and for a look, only changes are logged
-  pub run_changes : (v : View) → AreChanges (run_logged v)
+  pub run_changes : (v : View) → AreChanges (run_logged width_of v)
   run_changes v = by_test (length v.held == 0)
     where
-      by_test : (b : Bool) → AreChanges (if b then [] else Logged (Text v.held) ∷ [])
+      by_test : (b : Bool) → AreChanges (if b then [] else map Logged (run_changes_of width_of v.held v.state))
       by_test true = tt
-      by_test false = tt
+      by_test false = changes-logged (run_changes_of width_of v.held v.state)
 
   pub action_changes : (v : View) (action : StreamAction) → AreChanges (event_logged width_of v (Act action))
   action_changes v action = by_test (is_print action)
     where
-      by_test : (b : Bool) → AreChanges (if b then [] else run_logged v ++ map Logged (acted_changes action (settled width_of v).state))
+      by_test : (b : Bool) → AreChanges (if b then [] else run_logged width_of v ++ map Logged (acted_changes action (settled width_of v).state))
       by_test true = tt
-      by_test false = changes-append (run_logged v) (map Logged (acted_changes action (settled width_of v).state)) (run_changes v) (changes-logged (acted_changes action (settled width_of v).state))
+      by_test false = changes-append (run_logged width_of v) (map Logged (acted_changes action (settled width_of v).state)) (run_changes v) (changes-logged (acted_changes action (settled width_of v).state))
 
   settled_shows : (shown : Screen) (number : ℕ) (v : View) (s : Sized) → IsView width_of v → IsDisplay (display_on shown) → HasReached number s → Shows width_of shown number v.state.screen s
-      → Shows width_of shown number (settled width_of v).state.screen (fold step_of_kept s (run_logged v))
+      → Shows width_of shown number (settled width_of v).state.screen (fold step_of_kept s (run_logged width_of v))
   settled_shows shown number v s h k r p =
-      shows_on shown number v.state.screen (settled width_of v).state.screen s (run_logged v) k (display_on_is v.state.screen h.lawful.lawful h.lawful.whole) r (run_changes v) (λ d l e. (event_turns width_of v Looked d h tt l e).screen) p
+      shows_on shown number v.state.screen (settled width_of v).state.screen s (run_logged width_of v) k (display_on_is v.state.screen h.lawful.lawful h.lawful.whole) r (run_changes v) (λ d l e. (event_turns width_of v Looked d h tt l e).screen) p
 
   event_shows : (shown : Screen) (number : ℕ) (v : View) (event : Event) (s : Sized) → IsView width_of v → IsEvent event → IsDisplay (display_on shown) → HasReached number s → Shows width_of shown number v.state.screen s
       → Shows width_of (repeated_at event shown) number (event_done width_of v event).state.screen (fold step_of_kept s (event_logged width_of v event))
@@ -169,8 +170,8 @@ module _ (width_of : List ℕ → ℕ) where
       shows_on shown number v.state.screen (event_done width_of v (Act action)).state.screen s (event_logged width_of v (Act action)) k (display_on_is v.state.screen h.lawful.lawful h.lawful.whole) r (action_changes v action) (λ d m e. (event_turns width_of v (Act action) d h l m e).screen) p
   event_shows shown number v Looked s h l k r p = settled_shows shown number v s h k r p
   event_shows shown number v (Resized width tall) s h l k r p =
-      subst (Shows width_of (resized_screen width tall shown) number (resized_screen width tall (settled width_of v).state.screen)) (sym (fold-append step_of_kept s (run_logged v) (log.Resized (most_due width tall) ∷ [])))
-      (shows_resized shown number width tall (most_due width tall) (settled width_of v).state.screen (fold step_of_kept s (run_logged v)) (steps_reach number (run_logged v) s r) (settled_shows shown number v s h k r p))
+      subst (Shows width_of (resized_screen width tall shown) number (resized_screen width tall (settled width_of v).state.screen)) (sym (fold-append step_of_kept s (run_logged width_of v) (log.Resized (most_due width tall) ∷ [])))
+      (shows_resized shown number width tall (most_due width tall) (settled width_of v).state.screen (fold step_of_kept s (run_logged width_of v)) (steps_reach number (run_logged width_of v) s r) (settled_shows shown number v s h k r p))
   event_shows shown number v (Forgot before) s h l k r p = shows_forgotten shown number before v.state.screen s r p
 
   repeated_is : (event : Event) (shown : Screen) → IsEvent event → IsDisplay (display_on shown) → IsDisplay (display_on (repeated_at event shown))

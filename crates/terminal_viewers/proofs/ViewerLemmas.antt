@@ -17,7 +17,7 @@ use Rattle.terminal_render.specs.Effects.{IsReady}
 use Rattle.terminal_render.specs.Lists.{all_rendered, ListTextsHaveTheEffect, ListTextsLeaveIdle}
 use Rattle.terminal_render.specs.Spelling.{HaveEncodings, IsSpelledScreen}
 use Rattle.terminal_render.proofs.LogLemmas.{all_some}
-use Rattle.terminal_render.proofs.ViewLemmas.{display_on_is}
+use Rattle.terminal_render.proofs.RequestLemmas.{display_on_is}
 use Rattle.terminal_table.specs.Alone.{IsIdle}
 use Rattle.terminal_table.specs.History.{Piece}
 use Rattle.terminal_table.specs.Meaning.{View, after}

@@ -30,9 +30,9 @@ returns-in_err-settle-clause-memory g c =
     let p = err_from_is_err_and c.from_residual-in_err-settle.result c.from_residual-in_err-settle.ensures.1 in
     rw (p.1, p.2) (λ e.
     let refused : c.in_err-settle.field-0.0 ≡ Memory = cc in
-    fits_look (λ w. g.W.Widths.width_of w) (g.R.Read.remaining c.args.reader.now.inner) (g.R.Read.remaining c.feed_all.new.reader.inner) c.args.terminal.now c.feed_all.new.terminal c.in_ok-feed_all.ensures.ok c.in_ok-feed_all.ensures.none_left
+    fits_look (λ w. g.W.Widths.width_of w) (g.R.Read.remaining c.args.reader.now.inner) (g.R.Read.remaining c.feed_all.new.reader.inner) c.args.terminal.now c.feed_all.new.terminal c.settle.new.self.is_failed c.in_ok-feed_all.ensures.ok c.in_ok-feed_all.ensures.none_left
     (c.in_err-settle.ensures.numbered (λ n. absurd cc) c.in_ok-feed_all.ensures.sound))
 
 pub returns-clause-rows : goal.returns-clause-rows
-returns-clause-rows g c = fits_look (λ w. g.W.Widths.width_of w) (g.R.Read.remaining c.args.reader.now.inner) (g.R.Read.remaining c.feed_all.new.reader.inner) c.args.terminal.now c.feed_all.new.terminal c.in_ok-feed_all.ensures.ok c.in_ok-feed_all.ensures.none_left
+returns-clause-rows g c = fits_look (λ w. g.W.Widths.width_of w) (g.R.Read.remaining c.args.reader.now.inner) (g.R.Read.remaining c.feed_all.new.reader.inner) c.args.terminal.now c.feed_all.new.terminal c.settle.new.self.is_failed c.in_ok-feed_all.ensures.ok c.in_ok-feed_all.ensures.none_left
     (c.in_ok-settle.ensures.numbered (λ n. absurd cc) c.in_ok-feed_all.ensures.sound)

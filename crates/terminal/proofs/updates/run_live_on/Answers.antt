@@ -209,4 +209,4 @@ returns-in_err-number-clause-memory g c =
     let refused : ◌≡◌ {A = Result ℕ RunError} (Err c.in_err-number.field-0.0) (Err (Terminal Memory)) = cc in
     live_look_memory (λ w. g.W.Widths.width_of w) (λ r. g.R.Read.remaining r) (λ t. g.T.Write.contents t) c.args.terminal.now c.args.reader.now c.args.writer.now
     c.loop.terminal c.loop.reader c.loop.writer c.loop.number c.loop.invariant.widths c.loop.invariant.live c.read.new.self bytes c.in-Ok.ensures.bytes.0 some most count
-    c.feed.new.self c.in_ok-feed.ensures.done (c.in_err-number.ensures.memory refused))
+    c.feed.new.self c.write_update.new.terminal.is_failed c.in_ok-feed.ensures.done (c.in_err-number.ensures.memory refused))

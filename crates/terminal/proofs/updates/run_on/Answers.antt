@@ -195,7 +195,7 @@ returns-in_err-number-clause-memory g c =
     let full : length (take c.in-Ok.count c.read.new.buffer) ≡ c.loop.left = omega (arith, within, c.if-left-eq0.true, c.read.auto.buffer, c.min-most.ensures, length-take c.min-most.result c.loop.buffer, length-take c.in-Ok.count c.read.new.buffer) in
     rw (p.1, p.2) (λ e.
     let refused : ◌≡◌ {A = Result ℕ RunError} (Err c.in_err-number.field-0.0) (Err (Terminal Memory)) = cc in
-    on_look_memory (λ w. g.W.Widths.width_of w) c.args.every c.args.terminal.now (g.T.Write.contents c.args.writer.now.inner) (g.T.Write.contents c.loop.writer.inner) c.loop.terminal c.loop.number c.loop.left c.loop.invariant.widths (g.R.Read.remaining c.args.reader.now.inner) (g.R.Read.remaining c.loop.reader.inner) (g.R.Read.remaining c.read.new.self.inner) (take c.in-Ok.count c.read.new.buffer) c.feed.new.self c.loop.invariant.sends c.in-Ok.ensures.bytes.0
+    on_look_memory (λ w. g.W.Widths.width_of w) c.args.every c.args.terminal.now (g.T.Write.contents c.args.writer.now.inner) (g.T.Write.contents c.loop.writer.inner) c.loop.terminal c.loop.number c.loop.left c.loop.invariant.widths (g.R.Read.remaining c.args.reader.now.inner) (g.R.Read.remaining c.loop.reader.inner) (g.R.Read.remaining c.read.new.self.inner) (take c.in-Ok.count c.read.new.buffer) c.feed.new.self c.write_update-then-left-eq0.new.terminal.is_failed c.loop.invariant.sends c.in-Ok.ensures.bytes.0
     (subst (λ bytes. GoesBy (λ w. g.W.Widths.width_of w) c.loop.terminal c.feed.new.self (Piece bytes ∷ [])) (prefix c.in-Ok.count c.read.new.buffer (drop c.min-most.result c.loop.buffer) (omega (arith, within))) c.in_ok-feed.ensures.done)
     full c.loop.invariant.some (c.in_err-number.ensures.memory refused))
 
@@ -204,5 +204,5 @@ returns-in_err-write_update-clause-memory g c =
     let p = err_from_is_err_and c.from_residual.result c.from_residual.ensures.1 in
     rw (p.1, p.2) (λ e.
     let refused : ◌≡◌ {A = Result ℕ RunError} (Err c.in_err-write_update.field-0.0) (Err (Terminal Memory)) = cc in
-    on_end_memory (λ w. g.W.Widths.width_of w) c.args.every c.args.terminal.now (g.T.Write.contents c.args.writer.now.inner) (g.T.Write.contents c.loop.writer.inner) c.loop.terminal c.loop.number c.loop.left c.loop.invariant.widths (g.R.Read.remaining c.args.reader.now.inner) (g.R.Read.remaining c.loop.reader.inner) (g.R.Read.remaining c.read.new.self.inner) c.loop.invariant.sends
+    on_end_memory (λ w. g.W.Widths.width_of w) c.args.every c.args.terminal.now (g.T.Write.contents c.args.writer.now.inner) (g.T.Write.contents c.loop.writer.inner) c.loop.terminal c.loop.number c.loop.left c.loop.invariant.widths (g.R.Read.remaining c.args.reader.now.inner) (g.R.Read.remaining c.loop.reader.inner) (g.R.Read.remaining c.read.new.self.inner) c.write_update.new.terminal.is_failed c.loop.invariant.sends
     (subst (λ (n : ℕ). Consumes (g.R.Read.remaining c.loop.reader.inner) (g.R.Read.remaining c.read.new.self.inner) (take n c.read.new.buffer)) c.if-count-eq0.true c.in-Ok.ensures.bytes.0) (c.in_err-write_update.ensures.memory refused))

@@ -10,10 +10,10 @@ returns-clause-wraps c = refl
 pub returns-clause-plain : goal.returns-clause-plain
 unfolding table
 returns-clause-plain c = (
-  record { rows = refl; still = refl; run = λ ends. refl },
+  record { rows = refl; still = refl; run = λ ends. refl; put = λ ends. refl },
   (
-    record { rows = refl; still = refl; run = λ ends. refl },
-    (record { rows = refl; still = refl; run = λ ends. refl }, (record { rows = refl; still = refl; run = λ ends. refl }, tt)),
+    record { rows = refl; still = refl; run = λ ends. refl; put = λ ends. refl },
+    (record { rows = refl; still = refl; run = λ ends. refl; put = λ ends. refl }, (record { rows = refl; still = refl; run = λ ends. refl; put = λ ends. refl }, tt)),
   ),
 )
 

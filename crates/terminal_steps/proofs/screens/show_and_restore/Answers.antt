@@ -58,5 +58,5 @@ returns g c = λ can.
     record {
       added = becomes.added;
       saved = c.exchange.ensures.saved;
-      modes = ap (λ (n : Modes). record n { origin = m.other.with_cursor.origin }) (c.exchange.ensures.modes ∙ (λ i. record m { alternate = not m.alternate; with_cursor = m.other.with_cursor; other = record { rows = (ap rows_of c.in_ok-lines.ensures ∙ c.screen_lines.ensures.rows) i; cursor = c.args.saved.now; with_cursor = m.with_cursor } }));
+      modes = ap (λ (n : Modes). record n { origin = m.other.with_cursor.origin; charsets = m.other.with_cursor.charsets }) (c.exchange.ensures.modes ∙ (λ i. record m { alternate = not m.alternate; with_cursor = m.other.with_cursor; other = record { rows = (ap rows_of c.in_ok-lines.ensures ∙ c.screen_lines.ensures.rows) i; cursor = c.args.saved.now; with_cursor = m.with_cursor } }));
     }

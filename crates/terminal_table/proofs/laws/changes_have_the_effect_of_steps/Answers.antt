@@ -1,5 +1,5 @@
 use Rattle.terminal_table.specs.Functions.{function_of}
-use Rattle.terminal_table.proofs.RunLemmas.{run_step_turns}
+use Rattle.terminal_table.proofs.RunningLemmas.{run_step_turns}
 use Rattle.terminal_table.proofs.TurnLemmas.{step_turns, action_turns}
 use Rattle.terminal_table.proofs.laws.changes_have_the_effect_of_steps.Goals as goal
 

@@ -1,5 +1,6 @@
 use Rattle.std.specs.Prelude.{None}
-use Rattle.terminal_table.proofs.StateLemmas.{new_is, step_is, run_is, size_is}
+use Rattle.terminal_table.proofs.StateLemmas.{new_is, step_is, size_is}
+use Rattle.terminal_table.proofs.RunningLemmas.{run_is}
 use Rattle.terminal_table.proofs.laws.states_stay_lawful.Goals as goal
 
 pub returns-clause-new : goal.returns-clause-new
