@@ -10,6 +10,11 @@ from pathlib import Path
 ROOT = Path(__file__).resolve().parent.parent
 # Memory for each check side by side, in KiB: more than any crate here has taken.
 ROOM = 5 * 1024 * 1024
+# The TERM of recorded sessions by the last word of their names; of all others it is rilqamyn.
+TERMS = {
+    "direct": "rilqamyn-direct", "xterm": "xterm-256color", "screen": "screen-256color", "tmux": "tmux-256color",
+    "linux": "linux",
+}
 
 
 def kit_command():
@@ -76,6 +81,16 @@ def endings(crate, cases, files=()):
 def outputs(crate, cases):
     """Returns what the program of a crate writes for each case, as `endings` does."""
     return {name: written for name, (_, written, _) in endings(crate, cases).items()}
+
+
+def term_of(name):
+    """Returns the TERM under which the program of a session ran."""
+    return TERMS.get(name.rsplit("-", 1)[-1], "rilqamyn")
+
+
+def terminal_words(name):
+    """Returns the words that name relay's terminal for a recorded session, none for the project's own."""
+    return [] if term_of(name.rsplit("-", 1)[0]).startswith("rilqamyn") else ["--terminal", "xterm"]
 
 
 def recordings():
