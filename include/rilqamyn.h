@@ -45,15 +45,14 @@ enum rilqamyn_code {
     RILQAMYN_NUMBER = 4,      /* the number of changes would pass SIZE_MAX */
     RILQAMYN_FAILED = 5,      /* the terminal has failed, since an earlier call was refused memory or a number */
     RILQAMYN_SIZE = 6,        /* a size isn't from 1 to 2^32 - 1, or two terminals have different sizes */
-    RILQAMYN_RANGE = 7,       /* there is no such row, profile or format */
+    RILQAMYN_RANGE = 7,       /* there is no such row, profile or format; or no modes */
     RILQAMYN_OTHER_FAILED = 8 /* the terminal whose screen the viewer shows has failed */
 };
 
 /* Which control functions a terminal has. */
 enum rilqamyn_profile {
     RILQAMYN_PLAIN = 0, /* those of the project's own terminal description, rilqamyn */
-    RILQAMYN_XTERM = 1  /* those of xterm as far as they are built: the plain ones, ECH, ICH, DCH, EL 1, IL, DL, and
-                         * scroll margins */
+    RILQAMYN_XTERM = 1  /* those of xterm, for programs that run under xterm-256color and its like */
 };
 
 /* How a whole screen is written. */
@@ -80,6 +79,25 @@ struct rilqamyn_state {
     uint32_t cursor_shape;  /* as DECSCUSR numbers it, 0 to 6; 0 also where none was set */
     bool cursor_is_visible;
     bool is_failed;         /* whether each call that changes the terminal is refused with RILQAMYN_FAILED */
+};
+
+/* The modes of a terminal of the profile xterm, a byte each. */
+struct rilqamyn_modes {
+    bool application_cursor;         /* cursor keys send application sequences (DECCKM, DEC mode 1) */
+    bool application_keypad;         /* the keypad does (DECKPAM, DECNKM, DEC mode 66) */
+    bool reverse_video;              /* foreground and background change places on the whole screen (5) */
+    bool blinking_cursor;            /* (12) */
+    bool focus_tracking;             /* focus is reported (1004) */
+    bool alternate_scroll;           /* on the alternate screen the wheel sends cursor keys (1007) */
+    bool bracketed_paste;            /* what is pasted stands between brackets (2004) */
+    bool synchronized_output;        /* updates are to be shown at once when this ends (2026) */
+    uint8_t mouse_protocol_mode;     /* 0 no event of the mouse is reported, 1 presses of a button (9), 2 presses and
+                                      * releases (1000), 3 motion too while a button is held (1002), 4 and all motion
+                                      * (1003) */
+    uint8_t mouse_protocol_encoding; /* how: 0 coordinates are bytes, 1 characters in UTF-8 (1005), 2 decimal numbers
+                                      * as SGR (1006), 3 as urxvt (1015), 4 as SGR in pixels (1016) */
+    uint8_t cursor_style;            /* as DECSCUSR numbers it, 0 to 6; 0 is the default one */
+    bool alternate_screen;           /* the alternate screen is shown (47, 1047, 1049) */
 };
 
 /* A color of a cell. */
@@ -172,6 +190,14 @@ uint32_t rilqamyn_forget_before(struct rilqamyn_terminal *t, size_t number);
 
 /* What the terminal tells of itself, also if it has failed. Takes no memory. */
 uint32_t rilqamyn_state(struct rilqamyn_terminal *t, struct rilqamyn_state *out);
+
+/* The modes of a terminal of the profile xterm, as the bytes so far have set them, also if it has failed. No update or
+ * patch carries them to a viewer. Takes no memory. Code: RANGE (a plain terminal, which has none). */
+uint32_t rilqamyn_modes(struct rilqamyn_terminal *t, struct rilqamyn_modes *out);
+
+/* Whether the alternate screen is shown, also if the terminal has failed; false on a plain one, which has none. Takes
+ * no memory. */
+uint32_t rilqamyn_is_alternate(struct rilqamyn_terminal *t, bool *out);
 
 /* The title. As all calls below it doesn't settle. Codes: MEMORY, after which the terminal is as it was, and FAILED. */
 uint32_t rilqamyn_title(struct rilqamyn_terminal *t, struct rilqamyn_bytes *out);

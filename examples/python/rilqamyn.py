@@ -69,6 +69,18 @@ class State(ctypes.Structure):
     ]
 
 
+class Modes(ctypes.Structure):
+    """The modes of a terminal of the profile xterm; include/rilqamyn.h says what the numbers are."""
+
+    _fields_ = [
+        *((name, ctypes.c_bool) for name in ("application_cursor", "application_keypad", "reverse_video")),
+        *((name, ctypes.c_bool) for name in ("blinking_cursor", "focus_tracking", "alternate_scroll")),
+        *((name, ctypes.c_bool) for name in ("bracketed_paste", "synchronized_output")),
+        *((name, ctypes.c_uint8) for name in ("mouse_protocol_mode", "mouse_protocol_encoding", "cursor_style")),
+        ("alternate_screen", ctypes.c_bool),
+    ]
+
+
 LIBRARY = ctypes.CDLL(os.environ.get("RILQAMYN_LIBRARY", "librilqamyn.so"))
 HANDLE, SIZE, ANSWER = ctypes.POINTER(Terminal), ctypes.c_size_t, ctypes.POINTER(Bytes)
 ARGUMENTS = {
@@ -81,6 +93,8 @@ ARGUMENTS = {
     "take_replies": [HANDLE, ANSWER],
     "forget_before": [HANDLE, SIZE],
     "state": [HANDLE, ctypes.POINTER(State)],
+    "modes": [HANDLE, ctypes.POINTER(Modes)],
+    "is_alternate": [HANDLE, ctypes.POINTER(ctypes.c_bool)],
     "title": [HANDLE, ANSWER],
     "row_text": [HANDLE, SIZE, ANSWER],
     "screen_text": [HANDLE, ANSWER],
@@ -155,6 +169,18 @@ class Screen:
         state = State()
         self.call("state", state)
         return state
+
+    def modes(self):
+        """Returns the modes of the profile xterm; a plain screen has none, and refuses with Code.RANGE."""
+        modes = Modes()
+        self.call("modes", modes)
+        return modes
+
+    def is_alternate(self):
+        """Returns whether the alternate screen is shown, which a plain screen doesn't have."""
+        is_alternate = ctypes.c_bool()
+        self.call("is_alternate", is_alternate)
+        return is_alternate.value
 
     def title(self):
         return self.answer("title").decode()

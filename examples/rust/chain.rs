@@ -45,6 +45,8 @@ fn main() -> Result<(), Box<dyn Error>> {
         }
     }
     assert_eq!(terminal.screen(Format::Json)?, viewer.screen(Format::Json)?);
+    // (no control function leads a plain terminal to modes or to an alternate screen)
+    assert_eq!((terminal.modes(), terminal.is_alternate()?), (Err(Refused::Range), false));
     io::stdout().write_all(viewer.screen_text()?.as_bytes())?;
     Ok(())
 }

@@ -35,6 +35,8 @@ mod c {
         pub fn rilqamyn_take_replies(t: *mut Handle, out: *mut Bytes) -> u32;
         pub fn rilqamyn_forget_before(t: *mut Handle, number: usize) -> u32;
         pub fn rilqamyn_state(t: *mut Handle, out: *mut super::State) -> u32;
+        pub fn rilqamyn_modes(t: *mut Handle, out: *mut super::Modes) -> u32;
+        pub fn rilqamyn_is_alternate(t: *mut Handle, out: *mut bool) -> u32;
         pub fn rilqamyn_title(t: *mut Handle, out: *mut Bytes) -> u32;
         pub fn rilqamyn_row(t: *mut Handle, row: usize, out: *mut Row) -> u32;
         pub fn rilqamyn_screen_text(t: *mut Handle, out: *mut Bytes) -> u32;
@@ -60,7 +62,7 @@ impl fmt::Display for Refused {
             Refused::Number => "the number of changes has no next one",
             Refused::Failed => "the terminal has failed",
             Refused::Size => "this is no size of a screen, or two screens have different sizes",
-            Refused::Range => "there is no such row, profile or format",
+            Refused::Range => "there is no such row, profile or format, or no modes",
             Refused::OtherFailed => "the other terminal has failed",
         })
     }
@@ -109,6 +111,24 @@ pub struct State {
     pub cursor_shape: u32,
     pub cursor_is_visible: bool,
     pub is_failed: bool,
+}
+
+/// The modes of a terminal of the profile xterm; the header says what the numbers are.
+#[repr(C)]
+#[derive(Clone, Copy, Debug, Default, PartialEq, Eq)]
+pub struct Modes {
+    pub application_cursor: bool,
+    pub application_keypad: bool,
+    pub reverse_video: bool,
+    pub blinking_cursor: bool,
+    pub focus_tracking: bool,
+    pub alternate_scroll: bool,
+    pub bracketed_paste: bool,
+    pub synchronized_output: bool,
+    pub mouse_protocol_mode: u8,
+    pub mouse_protocol_encoding: u8,
+    pub cursor_style: u8,
+    pub alternate_screen: bool,
 }
 
 #[repr(C)]
@@ -246,6 +266,20 @@ impl Terminal {
         let mut state = State::default();
         done(unsafe { c::rilqamyn_state(&mut self.0, &mut state) })?;
         Ok(state)
+    }
+
+    /// The modes of the profile xterm; `Refused::Range` of a plain terminal, which has none.
+    pub fn modes(&mut self) -> Result<Modes, Refused> {
+        let mut modes = Modes::default();
+        done(unsafe { c::rilqamyn_modes(&mut self.0, &mut modes) })?;
+        Ok(modes)
+    }
+
+    /// Whether the alternate screen is shown, which a plain terminal doesn't have.
+    pub fn is_alternate(&mut self) -> Result<bool, Refused> {
+        let mut is_alternate = false;
+        done(unsafe { c::rilqamyn_is_alternate(&mut self.0, &mut is_alternate) })?;
+        Ok(is_alternate)
     }
 
     pub fn title(&mut self) -> Result<&str, Refused> {

@@ -13,8 +13,8 @@ use Rattle.terminal_steps.specs.Memory.{TakesMemory, TakesOwnMemory, number_sett
 use Rattle.terminal_table.specs.History.{Act}
 use Rattle.terminal_table.specs.Logged.{event_logged, events_logged, run_logged}
 use Rattle.terminal_table.specs.Meaning.{View, settled, event_done}
-use Rattle.terminal_table.specs.Request.{Request, Table, Xterm, Sets, SetsAlone, Switches, Replies}
-use Rattle.terminal_table.specs.Requests.{acted, acted_changes, request_changes, request_done, request_of}
+use Rattle.terminal_table.specs.Request.{Request, Table, Xterm, Sets, SetsAlone, Switches, Repeats, Aligns, Replies, Nothing}
+use Rattle.terminal_table.specs.Requests.{acted, acted_changes, request_changes, request_done, request_of, without_last}
 use Rattle.terminal_table.specs.Runs.{run_step}
 use Rattle.terminal_viewers.specs.Updates.{Standing}
 use Rattle.terminal_viewers.specs.Viewers.{AreAlike, AnswersAs}
@@ -44,29 +44,35 @@ module _ (f : List ℕ → ℕ) where
       by_test true = record { screen = refl; saved = refl; modes = refl; stream = refl; held = refl }
       by_test false = record { screen = refl; saved = refl; modes = refl; stream = refl; held = refl }
 
-  acted_alike : (action : StreamAction) (a b : View) → AreAlike a b → AreAlike (record a { state = acted action a.state }) (record b { state = acted action b.state })
+  acted_alike : (action : StreamAction) (a b : View) → AreAlike a b → AreAlike (record a { state = acted f action a.state }) (record b { state = acted f action b.state })
   acted_alike action a b h =
-      subst (λ x. AreAlike (record x { state = acted action x.state }) (record b { state = acted action b.state })) (sym (same_as a b h)) (by_request (request_of b.state.modes b.state.screen action))
+      subst (λ x. AreAlike (record x { state = acted f action x.state }) (record b { state = acted f action b.state })) (sym (same_as a b h)) (by_request (request_of b.state.modes b.state.screen action))
     where
-      by_request : (request : Option Request) → AreAlike (record b { state = request_done request (with_replies a.state.replies b).state }) (record b { state = request_done request b.state })
+      by_request : (request : Option Request) → AreAlike (record b { state = without_last (request_done f request (with_replies a.state.replies b).state) }) (record b { state = without_last (request_done f request b.state) })
       by_request None = record { screen = refl; saved = refl; modes = refl; stream = refl; held = refl }
       by_request (Some (Table function)) = record { screen = refl; saved = refl; modes = refl; stream = refl; held = refl }
       by_request (Some (Xterm function)) = record { screen = refl; saved = refl; modes = refl; stream = refl; held = refl }
       by_request (Some (Sets setting function)) = record { screen = refl; saved = refl; modes = refl; stream = refl; held = refl }
       by_request (Some (SetsAlone setting)) = record { screen = refl; saved = refl; modes = refl; stream = refl; held = refl }
       by_request (Some (Switches function)) = record { screen = refl; saved = refl; modes = refl; stream = refl; held = refl }
+      by_request (Some (Repeats count)) = record { screen = refl; saved = refl; modes = refl; stream = refl; held = refl }
+      by_request (Some Aligns) = record { screen = refl; saved = refl; modes = refl; stream = refl; held = refl }
+      by_request (Some Nothing) = record { screen = refl; saved = refl; modes = refl; stream = refl; held = refl }
       by_request (Some (Replies text)) = record { screen = refl; saved = refl; modes = refl; stream = refl; held = refl }
 
-  changes_alike : (action : StreamAction) (a b : View) → AreAlike a b → acted_changes action a.state ≡ acted_changes action b.state
-  changes_alike action a b h = ap (λ x. acted_changes action x.state) (same_as a b h) ∙ by_request (request_of b.state.modes b.state.screen action)
+  changes_alike : (action : StreamAction) (a b : View) → AreAlike a b → acted_changes f action a.state ≡ acted_changes f action b.state
+  changes_alike action a b h = ap (λ x. acted_changes f action x.state) (same_as a b h) ∙ by_request (request_of b.state.modes b.state.screen action)
     where
-      by_request : (request : Option Request) → request_changes request (with_replies a.state.replies b).state ≡ request_changes request b.state
+      by_request : (request : Option Request) → request_changes f request (with_replies a.state.replies b).state ≡ request_changes f request b.state
       by_request None = refl
       by_request (Some (Table function)) = refl
       by_request (Some (Xterm function)) = refl
       by_request (Some (Sets setting function)) = refl
       by_request (Some (SetsAlone setting)) = refl
       by_request (Some (Switches function)) = refl
+      by_request (Some (Repeats count)) = refl
+      by_request (Some Aligns) = refl
+      by_request (Some Nothing) = refl
       by_request (Some (Replies text)) = refl
 
   done_alike : (a b : View) (action : StreamAction) → AreAlike a b → AreAlike (event_done f a (Act action)) (event_done f b (Act action))

@@ -90,8 +90,8 @@ resized_tall width tall s =
 event_small : (f : List ℕ → ℕ) (v : View) (event : Event) → IsView f v → IsSmallEvent event → IsSmall v.state.screen → IsSmall (event_done f v event).state.screen
 event_small f v (Act action) h k p = by_test (is_print action) refl
   where
-    done_small : IsSmall (acted action (settled f v).state).screen
-    done_small = same_small (acted action (settled f v).state).screen (settled f v).state.screen (acted_size f action (settled f v).state (settled_is f v h).lawful) (settled_small f v h p)
+    done_small : IsSmall (acted f action (settled f v).state).screen
+    done_small = same_small (acted f action (settled f v).state).screen (settled f v).state.screen (acted_size f action (settled f v).state (settled_is f v h).lawful) (settled_small f v h p)
 
     by_test : (b : Bool) → is_print action ≡ b → IsSmall (event_done f v (Act action)).state.screen
     by_test true e = rw e p

@@ -45,7 +45,8 @@ use Rattle.terminal_table.specs.History.{History, Piece, Look, Looked, Forget}
 use Rattle.terminal_table.specs.Logged.{event_logged}
 use Rattle.terminal_table.specs.Meaning.{View, new_view, after, settled}
 use Rattle.terminal_table.specs.State.{State, IsState}
-use Rattle.terminal_table.specs.Turns.{IsRunText, IsView, AreSizes, changes_in, replayed}
+use Rattle.terminal_table.specs.RunText.{IsRunText}
+use Rattle.terminal_table.specs.Turns.{IsView, AreSizes, changes_in, replayed}
 use Rattle.terminal_table.proofs.EventLemmas.{event_turns}
 use Rattle.terminal_table.proofs.StateLemmas.{new_is}
 use Rattle.terminal_viewers.specs.Shows.{Shows}

@@ -29,6 +29,8 @@ pub use error::RunError;
 pub use steps::{Step, play};
 pub use terminal::Terminal;
 pub use terminal_render::{RenderError, render};
-pub use terminal_steps::{Profile, TerminalError};
+pub use terminal_steps::{
+    CursorStyle, Modes, MouseProtocolEncoding, MouseProtocolMode, Profile, TerminalError,
+};
 pub use updates::{run, run_live, run_live_on, run_on};
 pub use watched::Watched;

@@ -1,6 +1,6 @@
 //! The terminal.
 ghost use Rattle.std.specs.Prelude.{◌≡◌, ◌↔◌, true, false, [], ◌∷◌, length, IsTrue, IsOk, IfOk, OnOk, OnErr};
-ghost use Rattle.std.specs.Prelude.{IsErrOf};
+ghost use Rattle.std.specs.Prelude.{IsErrOf, option_map};
 ghost use Rattle.cell_base.specs.ScreenSize.{IsScreenSize};
 ghost use Rattle.screen_log.specs.Log.{most_due, new_log};
 ghost use Rattle.cell_surface.specs.Surface.{number_of};
@@ -8,7 +8,7 @@ ghost use Rattle.terminal.specs.Headline.{StandsAt, GoesBy};
 ghost use Rattle.terminal.specs.Refusals.{HasNumbersToLook, NeedsMemory, NeedsNumber};
 ghost use Rattle.terminal.specs.Terminal.{IsSpelled};
 ghost use Rattle.terminal.specs.Viewing.{patch_from, update_for};
-ghost use Rattle.terminal_steps.specs.ProfileView.{modes_of};
+ghost use Rattle.terminal_steps.specs.ProfileView.{modes_in, modes_of};
 ghost use Rattle.terminal_table.specs.History.{Piece, Look, Resize, Forget};
 ghost use Rattle.terminal_table.specs.Meaning.{View, new_view, new_view_with};
 ghost use Rattle.terminal_table.specs.Turns.{IsView};
@@ -18,7 +18,7 @@ use cell_surface::Surface;
 use escape_stream::Parser;
 use std::alloc::{AllocError, Global};
 use std::marker::Model;
-use terminal_steps::{Profile, TerminalError, TerminalState};
+use terminal_steps::{Modes, Profile, TerminalError, TerminalState};
 use terminal_viewers::patch::patch;
 use terminal_viewers::update::update;
 
@@ -239,6 +239,13 @@ impl<W: Widths + Drop> Terminal<W> {
         self.settle()?;
         let bytes = self.patch_from(shown)?;
         Ok((self.current_number(), bytes))
+    }
+
+    /// The modes of the profile xterm, as the bytes so far have set them; none on a plain terminal.
+    pub fn modes(&self) -> Option<&Modes>
+        ensures { option_map (λ modes. modes_in modes.now) result ≡ self.now.modes }
+    {
+        self.state.modes()
     }
 
     /// Hands out the replies that were not yet taken, and leaves none.

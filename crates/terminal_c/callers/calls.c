@@ -32,9 +32,12 @@ static int closed_handles(void) {
     struct rilqamyn_bytes out = {(const uint8_t *)"x", 7};
     struct rilqamyn_row row;
     struct rilqamyn_state state;
+    struct rilqamyn_modes modes;
+    bool is_alternate = true;
     size_t now = 9;
     memset(&row, 0, sizeof row);
     memset(&state, 1, sizeof state);
+    memset(&modes, 1, sizeof modes);
     CHECK(rilqamyn_new(&open, 6, 2, RILQAMYN_PLAIN) == RILQAMYN_DONE);
     CHECK(feed(&t, "a") == RILQAMYN_NOT_OPEN);
     CHECK(rilqamyn_settle(&t) == RILQAMYN_NOT_OPEN);
@@ -45,6 +48,8 @@ static int closed_handles(void) {
     CHECK(rilqamyn_take_replies(&t, &out) == RILQAMYN_NOT_OPEN);
     CHECK(rilqamyn_forget_before(&t, 1) == RILQAMYN_NOT_OPEN);
     CHECK(rilqamyn_state(&t, &state) == RILQAMYN_NOT_OPEN);
+    CHECK(rilqamyn_modes(&t, &modes) == RILQAMYN_NOT_OPEN && modes.alternate_screen && modes.cursor_style == 1);
+    CHECK(rilqamyn_is_alternate(&t, &is_alternate) == RILQAMYN_NOT_OPEN && is_alternate);
     CHECK(rilqamyn_title(&t, &out) == RILQAMYN_NOT_OPEN);
     CHECK(rilqamyn_row_text(&t, 0, &out) == RILQAMYN_NOT_OPEN);
     CHECK(rilqamyn_row(&t, 0, &row) == RILQAMYN_NOT_OPEN);
@@ -131,6 +136,49 @@ static int reads(void) {
     return 0;
 }
 
+/* The modes of each profile. */
+static int modes_of_profiles(void) {
+    struct rilqamyn_terminal t = RILQAMYN_CLOSED;
+    struct rilqamyn_modes modes, none;
+    const int mouse[] = {9, 1000, 1002, 1003}, encoding[] = {1005, 1006, 1015, 1016};
+    char text[16];
+    bool is_alternate = true;
+    memset(&modes, 1, sizeof modes);
+    memset(&none, 0, sizeof none);
+    CHECK(rilqamyn_new(&t, 6, 2, RILQAMYN_PLAIN) == RILQAMYN_DONE);
+    CHECK(feed(&t, "\x1b[?1h\x1b[?1049h\x1b[4 q") == RILQAMYN_DONE);
+    CHECK(rilqamyn_modes(&t, &modes) == RILQAMYN_RANGE);
+    CHECK(modes.application_cursor && modes.cursor_style == 1 && modes.mouse_protocol_mode == 1);
+    CHECK(rilqamyn_is_alternate(&t, &is_alternate) == RILQAMYN_DONE && !is_alternate);
+    rilqamyn_free(&t);
+    CHECK(rilqamyn_new(&t, 6, 2, RILQAMYN_XTERM) == RILQAMYN_DONE);
+    CHECK(rilqamyn_modes(&t, &modes) == RILQAMYN_DONE && memcmp(&modes, &none, sizeof modes) == 0);
+    CHECK(rilqamyn_is_alternate(&t, &is_alternate) == RILQAMYN_DONE && !is_alternate);
+    CHECK(feed(&t, "\x1b[?1;5;1004;2004h\x1b[5 q") == RILQAMYN_DONE);
+    CHECK(rilqamyn_modes(&t, &modes) == RILQAMYN_DONE && modes.application_cursor && !modes.application_keypad);
+    CHECK(modes.reverse_video && !modes.blinking_cursor && modes.focus_tracking && !modes.alternate_scroll);
+    CHECK(modes.bracketed_paste && !modes.synchronized_output && modes.cursor_style == 5 && !modes.alternate_screen);
+    CHECK(feed(&t, "\x1b[?1;5;1004;2004l\x1b[?66;12;1007;2026;1049h") == RILQAMYN_DONE);
+    CHECK(rilqamyn_modes(&t, &modes) == RILQAMYN_DONE && !modes.application_cursor && modes.application_keypad);
+    CHECK(!modes.reverse_video && modes.blinking_cursor && !modes.focus_tracking && modes.alternate_scroll);
+    CHECK(!modes.bracketed_paste && modes.synchronized_output && modes.alternate_screen);
+    CHECK(rilqamyn_is_alternate(&t, &is_alternate) == RILQAMYN_DONE && is_alternate);
+    for (int i = 0; i < 4; i++) {
+        snprintf(text, sizeof text, "\x1b[?%dh", mouse[i]);
+        CHECK(feed(&t, text) == RILQAMYN_DONE && rilqamyn_modes(&t, &modes) == RILQAMYN_DONE);
+        CHECK(modes.mouse_protocol_mode == i + 1 && modes.mouse_protocol_encoding == 0);
+    }
+    for (int i = 0; i < 4; i++) {
+        snprintf(text, sizeof text, "\x1b[?%dh", encoding[i]);
+        CHECK(feed(&t, text) == RILQAMYN_DONE && rilqamyn_modes(&t, &modes) == RILQAMYN_DONE);
+        CHECK(modes.mouse_protocol_mode == 4 && modes.mouse_protocol_encoding == i + 1);
+    }
+    CHECK(feed(&t, "\x1b[?1049l") == RILQAMYN_DONE);
+    CHECK(rilqamyn_is_alternate(&t, &is_alternate) == RILQAMYN_DONE && !is_alternate);
+    rilqamyn_free(&t);
+    return 0;
+}
+
 /* A viewer by updates and one by patches show the terminal's screen. */
 static int viewers(void) {
     struct rilqamyn_terminal t = RILQAMYN_CLOSED, by_update = RILQAMYN_CLOSED, by_patch = RILQAMYN_CLOSED;
@@ -162,5 +210,5 @@ static int viewers(void) {
 }
 
 int main(void) {
-    return closed_handles() || ranges() || reads() || viewers();
+    return closed_handles() || ranges() || reads() || modes_of_profiles() || viewers();
 }

@@ -12,6 +12,7 @@ static struct rilqamyn_state state;
 static struct rilqamyn_bytes out;
 static struct rilqamyn_row row;
 static size_t number;
+static bool alternate;
 
 static uint32_t new_free(void) {
     uint32_t code = rilqamyn_new(&other, 80, 24, RILQAMYN_PLAIN);
@@ -27,6 +28,7 @@ static uint32_t patch(void) { return rilqamyn_patch(&terminal, &other, &number, 
 static uint32_t take_replies(void) { return rilqamyn_take_replies(&terminal, &out); }
 static uint32_t forget_before(void) { return rilqamyn_forget_before(&terminal, number); }
 static uint32_t tell_state(void) { return rilqamyn_state(&terminal, &state); }
+static uint32_t is_alternate(void) { return rilqamyn_is_alternate(&terminal, &alternate); }
 static uint32_t title(void) { return rilqamyn_title(&terminal, &out); }
 static uint32_t row_text(void) { return rilqamyn_row_text(&terminal, 2, &out); }
 static uint32_t row_cells(void) { return rilqamyn_row(&terminal, 2, &row); }
@@ -47,7 +49,8 @@ static const struct {
 } calls[] = {
     {"new_free", new_free}, {"feed", feed}, {"settle", settle}, {"resize", resize}, {"update", update},
     {"update_whole", update_whole}, {"patch", patch}, {"take_replies", take_replies}, {"forget_before", forget_before},
-    {"state", tell_state}, {"title", title}, {"row_text", row_text}, {"row", row_cells}, {"rows", rows},
+    {"state", tell_state}, {"is_alternate", is_alternate}, {"title", title}, {"row_text", row_text},
+    {"row", row_cells}, {"rows", rows},
     {"screen_text", screen_text}, {"screen_ansi", screen_ansi}, {"screen_html", screen_html},
     {"screen_svg", screen_svg}, {"screen_json", screen_json},
 };

@@ -90,8 +90,10 @@ static void use(void) {
     struct rilqamyn_terminal t = RILQAMYN_CLOSED, viewer = RILQAMYN_CLOSED;
     struct rilqamyn_bytes out;
     struct rilqamyn_row row;
+    struct rilqamyn_modes modes;
     size_t now = 0;
     long before;
+    bool is_alternate = true;
     if (!is_done(NEW, rilqamyn_new(&t, 20, 3, RILQAMYN_PLAIN))) {
         CHECK(feed(&t, "x") == RILQAMYN_NOT_OPEN);
         return;
@@ -118,6 +120,8 @@ static void use(void) {
     before = count;
     CHECK(rilqamyn_take_replies(&t, &out) == RILQAMYN_DONE);
     CHECK(rilqamyn_forget_before(&t, now) == (failed ? RILQAMYN_FAILED : RILQAMYN_DONE));
+    CHECK(rilqamyn_modes(&t, &modes) == RILQAMYN_RANGE);
+    CHECK(rilqamyn_is_alternate(&t, &is_alternate) == RILQAMYN_DONE && !is_alternate);
     CHECK(rilqamyn_feed(&t, out.at, 0) == (failed ? RILQAMYN_FAILED : RILQAMYN_DONE));
     CHECK(count == before);
     rilqamyn_free(&t);

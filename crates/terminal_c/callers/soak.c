@@ -51,6 +51,7 @@ static void load(const char *name) {
 struct session {
     struct rilqamyn_terminal terminal, by_update, by_patch;
     size_t since;
+    bool is_xterm;
 };
 
 static void resize(struct session *s) {
@@ -64,7 +65,8 @@ static void begin(struct session *s) {
     rilqamyn_free(&s->terminal);
     rilqamyn_free(&s->by_update);
     rilqamyn_free(&s->by_patch);
-    DONE(rilqamyn_new(&s->terminal, 80, 24, RILQAMYN_PLAIN + below(2)));
+    s->is_xterm = below(2);
+    DONE(rilqamyn_new(&s->terminal, 80, 24, s->is_xterm ? RILQAMYN_XTERM : RILQAMYN_PLAIN));
     DONE(rilqamyn_new(&s->by_update, 80, 24, RILQAMYN_PLAIN));
     DONE(rilqamyn_new(&s->by_patch, 80, 24, RILQAMYN_PLAIN));
     s->since = 0;
@@ -145,6 +147,18 @@ static void read_screen(struct rilqamyn_terminal *t) {
     read_all(out);
 }
 
+/* Only a terminal of the profile xterm has modes; its alternate screen is shown by both calls or by none. */
+static void read_modes(struct rilqamyn_terminal *t, bool is_xterm) {
+    struct rilqamyn_modes modes;
+    bool is_alternate;
+    memset(&modes, 0, sizeof modes);
+    made++;
+    CHECK(rilqamyn_modes(t, &modes) == (is_xterm ? RILQAMYN_DONE : RILQAMYN_RANGE));
+    CHECK(modes.mouse_protocol_mode <= 4 && modes.mouse_protocol_encoding <= 4 && modes.cursor_style <= 6);
+    DONE(rilqamyn_is_alternate(t, &is_alternate));
+    CHECK(is_alternate == modes.alternate_screen);
+}
+
 static void step(struct session *s) {
     struct rilqamyn_bytes out;
     switch (below(32)) {
@@ -158,6 +172,7 @@ static void step(struct session *s) {
     case 7: case 8: case 9: send(s, &s->by_update); break;
     case 10: case 11: case 12: send(s, &s->by_patch); break;
     case 13: case 14: case 15: read_row(&s->terminal); break;
+    case 16: read_modes(&s->terminal, s->is_xterm); break;
     default: feed(s); break;
     }
 }

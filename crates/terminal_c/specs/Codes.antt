@@ -30,7 +30,7 @@ FAILED = 5
 abbrev pub SIZE : ℕ
 SIZE = 6
 
--- there is no such row, profile or format
+-- there is no such row, profile or format; or a plain terminal has no modes
 abbrev pub RANGE : ℕ
 RANGE = 7
 

@@ -6,4 +6,5 @@ pub mod Owned
 pub mod States
 pub mod Told
 pub mod ToldCells
+pub mod ToldModes
 pub mod ToldView

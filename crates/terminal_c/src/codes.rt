@@ -21,7 +21,7 @@ pub(crate) const FAILED: u32 = 5;
 /// A size isn't from 1 to 2^32 - 1, or two terminals have different sizes.
 pub(crate) const SIZE: u32 = 6;
 
-/// There is no such row, profile or format.
+/// There is no such row, profile or format; or a plain terminal has no modes.
 pub(crate) const RANGE: u32 = 7;
 
 /// The other terminal has failed.

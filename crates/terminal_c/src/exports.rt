@@ -10,12 +10,14 @@ ghost use Rattle.terminal_c.specs.Calls.{TakesReplies, Updates};
 ghost use Rattle.terminal_c.specs.Formats.{format_count, screen_in};
 ghost use Rattle.terminal_c.specs.Handles.{Calls, CallsOnTwo, Lends, LendsCells};
 ghost use Rattle.terminal_c.specs.States.{profile_of, row_at, screen_of, state_of};
+ghost use Rattle.terminal_c.specs.ToldModes.{is_alternate, TellsModes};
 ghost use Rattle.terminal_c.specs.ToldView.{IsTold};
 ghost use Rattle.terminal_steps.specs.ProfileView.{modes_of};
 
 use crate::codes::{DONE, IS_OPEN, MEMORY, NOT_OPEN, RANGE, SIZE};
 use crate::handle::{Handle, give, take};
 use crate::kept::{Kept, State, is_size, profile_of};
+use crate::modes::ToldModes;
 use crate::told::{Cell, Row};
 use std::alloc::Global;
 use std::ptr;
@@ -272,6 +274,38 @@ pub extern "C" fn rilqamyn_state(alloc: Global, h: &mut Handle, out: &mut State)
     match take(h, alloc) {
         Some(kept) => {
             *out = kept.state();
+            give(h, kept);
+            DONE
+        }
+        None => NOT_OPEN,
+    }
+}
+
+#[unsafe(no_mangle)]
+pub extern "C" fn rilqamyn_modes(alloc: Global, h: &mut Handle, out: &mut ToldModes) -> u32
+    ensures told { Calls h.old.inner.value h.new.inner.value result
+        (λ a b. (b ≡ a) × TellsModes a.terminal.modes out.new result) }
+    ensures stays { (result ≡ DONE → ⊥) → out.new ≡ out.old }
+{
+    match take(h, alloc) {
+        Some(kept) => {
+            let code = kept.modes(out);
+            give(h, kept);
+            code
+        }
+        None => NOT_OPEN,
+    }
+}
+
+#[unsafe(no_mangle)]
+pub extern "C" fn rilqamyn_is_alternate(alloc: Global, h: &mut Handle, out: &mut bool) -> u32
+    ensures told { Calls h.old.inner.value h.new.inner.value result
+        (λ a b. (result ≡ DONE) × (b ≡ a) × (out.new ≡ is_alternate a.terminal.modes)) }
+    ensures stays { (result ≡ DONE → ⊥) → out.new ≡ out.old }
+{
+    match take(h, alloc) {
+        Some(kept) => {
+            *out = kept.is_alternate();
             give(h, kept);
             DONE
         }

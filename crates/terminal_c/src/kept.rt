@@ -9,11 +9,13 @@ ghost use Rattle.terminal_c.specs.Calls.{TakesReplies, Updates};
 ghost use Rattle.terminal_c.specs.Codes.{DONE};
 ghost use Rattle.terminal_c.specs.Formats.{format_count, screen_in};
 ghost use Rattle.terminal_c.specs.States.{profile_of, row_at, screen_of, shape_number, state_of};
+ghost use Rattle.terminal_c.specs.ToldModes.{is_alternate, TellsModes};
 ghost use Rattle.terminal_c.specs.ToldView.{IsTold};
 ghost use Rattle.terminal_steps.specs.ProfileView.{modes_of};
 
 use crate::codes::{DONE, FAILED, MEMORY, NUMBER, OTHER_FAILED, RANGE, SIZE};
 use crate::formats::{FORMAT_COUNT, screen_in};
+use crate::modes::{ToldModes, modes_told};
 use crate::told::{Row, row_of};
 use cell_base::{CursorShape, CursorVisibility};
 use cell_line::Line;
@@ -259,6 +261,30 @@ impl Kept {
             cursor_shape: shape_number(surface.cursor_shape()),
             cursor_is_visible: surface.cursor_visibility() == CursorVisibility::Visible,
             is_failed: self.terminal.is_failed(),
+        }
+    }
+
+    /// Tells the modes of the profile xterm.
+    pub(crate) fn modes(&self, out: &mut ToldModes) -> u32
+        ensures told { TellsModes self.now.terminal.modes out.new result }
+        ensures stays { (result ≡ DONE → ⊥) → out.new ≡ out.old }
+    {
+        match self.terminal.modes() {
+            Some(modes) => {
+                *out = modes_told(modes);
+                DONE
+            }
+            None => RANGE,
+        }
+    }
+
+    /// Whether the alternate screen is shown.
+    pub(crate) fn is_alternate(&self) -> bool
+        ensures { result ≡ is_alternate self.now.terminal.modes }
+    {
+        match self.terminal.modes() {
+            Some(modes) => modes.alternate_screen(),
+            None => false,
         }
     }
 

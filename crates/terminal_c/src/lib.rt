@@ -6,6 +6,7 @@
 //! - `formats`: the screen in the formats of files.
 //! - `handle`: a handle, which C keeps between two calls.
 //! - `kept`: what a handle leads to, and what each call does with it.
+//! - `modes`: the modes of the profile xterm, told to C.
 //! - `owned`: what a handle owns.
 //! - `parts`: a `Box` with its fields in sight.
 //! - `told`: a row, told to C.
@@ -17,6 +18,7 @@ mod fast;
 mod formats;
 mod handle;
 mod kept;
+mod modes;
 mod owned;
 mod parts;
 mod told;

@@ -15,7 +15,7 @@ use Rattle.escape_framing.proofs.Existence.Utf8Lemmas.{Spelled, in_one, in_two, 
 use Rattle.escape_framing.proofs.Existence.Utf8Lemmas.{append_nil}
 use Rattle.escape_stream.specs.StreamWritable.{IsPrintableText}
 use Rattle.screen_effects.specs.Strokes.{TextPart, Control, Plain, with_byte, text_parts}
-use Rattle.terminal_table.specs.Turns.{IsPrinted}
+use Rattle.terminal_table.specs.RunText.{IsPrinted}
 use Rattle.terminal_table.proofs.RunLemmas.{character_printed}
 
 -- ---- bytes before parts

@@ -15,6 +15,7 @@ use Rattle.screen_effects.specs.Display.{Display}
 use Rattle.screen_effects.specs.Strokes.{TextPart, Plain, Control, Stroke, CarriageReturn, LineFeed, Cluster, text_parts, part_strokes, strokes, stroke_on, stroke_done}
 use Rattle.terminal_table.specs.Modes.{SavedCursor}
 use Rattle.terminal_table.specs.Functions.{function_of}
+use Rattle.terminal_table.specs.Requests.{without_last}
 use Rattle.terminal_table.specs.Runs.{run_step}
 use Rattle.terminal_table.specs.History.{Act}
 use Rattle.terminal_table.specs.Meaning.{View, event_done}
@@ -55,8 +56,8 @@ module _ (f : List ℕ → ℕ) (saved : Option SavedCursor) (replies : List ℕ
   unfolding function_of
   run_done [] s = sym (ap (λ ts. on (fold (put f) s ts)) no_clusters)
   run_done (b ∷ text) s =
-      other_view f (record (on s) { held = b ∷ text }) (control 0) refl (λ screen. refl)
-      ∙ (λ i. record (on s) { state = if some_text b text i then (on s).state else run_step f (b ∷ text) (on s).state })
+      other_view f (record (on s) { held = b ∷ text }) (control 0) refl (λ last screen. refl)
+      ∙ (λ i. record (on s) { state = without_last (if some_text b text i then (on s).state else run_step f (b ∷ text) (on s).state) })
 
   return_done : (s : Screen) → actions_done f (on s) (control 13 ∷ []) ≡ on (stroke_on f s CarriageReturn)
   unfolding function_of

@@ -15,30 +15,36 @@ use Rattle.escape_stream.specs.StreamWritable.{IsWritableAfter, IsWritable, HasT
 use Rattle.screen_effects.specs.Display.{Display}
 use Rattle.terminal_table.specs.Alone.{IsIdle}
 use Rattle.terminal_table.specs.History.{Act, Piece, events}
-use Rattle.terminal_table.specs.Meaning.{View, event_done, after}
+use Rattle.terminal_table.specs.Meaning.{View, settled, event_done, after}
 use Rattle.terminal_table.specs.Request.{Request}
-use Rattle.terminal_table.specs.Requests.{request_done}
+use Rattle.terminal_table.specs.Requests.{acted, request_done, request_of, without_last}
+use Rattle.terminal_table.specs.State.{State}
 use Rattle.terminal_table.proofs.JoinLemmas.{nothing_after}
 use Rattle.terminal_table.proofs.ListLemmas.{append_nil}
-use Rattle.terminal_table.proofs.RequestLemmas.{terminator_asks}
+use Rattle.terminal_table.proofs.RequestLemmas.{terminator_nothing, twice}
 use Rattle.terminal_table.proofs.TextLemmas.{with_text}
 use Rattle.terminal_render.specs.Effects.{actions_done, RenderedTextsHaveTheEffect, RenderedTextsLeaveIdle}
 use Rattle.terminal_render.proofs.WholeLemmas.{have_the_effect}
 
 -- ---- the actions that are read do what the encoded actions do
 
+-- no run is held, and none is the one before
+pub record IsClosed (v : View) : Type 0 where
+  pub run : v.held ≡ []
+  pub last : without_last v.state ≡ v.state
+
 module _ (f : List ℕ → ℕ) where
   pub joined : (xs ys : List StreamAction) (v : View) → actions_done f v (xs ++ ys) ≡ actions_done f (actions_done f v xs) ys
   joined xs ys v = ap (fold (event_done f) v) (map-append Act xs ys) ∙ fold-append (event_done f) v (map Act xs) (map Act ys)
 
-  -- a string terminator does nothing where no run is held
-  pub terminator_done : (v : View) → v.held ≡ [] → actions_done f v (string_terminator ∷ []) ≡ v
-  terminator_done v e =
-      ap (λ run. actions_done f (record v { held = run }) (string_terminator ∷ [])) e
-      ∙ ap (λ (request : Option Request). record v { state = request_done request v.state; held = [] }) (terminator_asks v.state.modes v.state.screen)
-      ∙ (λ i. record v { held = sym e i })
+  -- a string terminator does nothing where that holds
+  pub terminator_done : (v : View) → IsClosed v → actions_done f v (string_terminator ∷ []) ≡ v
+  terminator_done v h =
+      ap (λ run. actions_done f (record v { held = run }) (string_terminator ∷ [])) h.run
+      ∙ ap (λ (request : Option Request). record v { state = without_last (request_done f request v.state); held = [] }) (terminator_nothing v.state)
+      ∙ (λ i. record v { state = h.last i; held = sym h.run i })
 
-  added_done : (closed stands : Bool) (v : View) → (closed ≡ true → v.held ≡ []) → actions_done f v (terminator_before closed stands) ≡ v
+  added_done : (closed stands : Bool) (v : View) → (closed ≡ true → IsClosed v) → actions_done f v (terminator_before closed stands) ≡ v
   added_done true true v h = refl
   added_done true false v h = terminator_done v (h refl)
   added_done false true v h = refl
@@ -47,17 +53,22 @@ module _ (f : List ℕ → ℕ) where
   text_done : (text : List ℕ) (v : View) → IsUtf8 text → actions_done f v (map print (chars text)) ≡ actions_done f v (print_string text ∷ [])
   text_done text v u = with_text f v (chars text) ∙ (λ i. record v { held = v.held ++ encodes-chars text u i })
 
-  -- after an action that closes a string no run is held
-  closed_run : (a : StreamAction) (v : View) → closes_string a ≡ true → (event_done f v (Act a)).held ≡ []
-  closed_run (command c) v e = refl
-  closed_run exit v e = refl
-  closed_run (print c) v e = cc
-  closed_run (print_string text) v e = cc
-  closed_run (control n) v e = cc
-  closed_run (enter header byte) v e = cc
-  closed_run (data_byte b) v e = cc
-  closed_run (csi a) v e = cc
-  closed_run (esc p) v e = cc
+  acted_closed : (a : StreamAction) (v : View) → IsClosed (record (settled f v) { state = acted f a (settled f v).state; held = [] })
+  acted_closed a v =
+      let own : State = (settled f v).state in
+      record { run = refl; last = twice (request_done f (request_of own.modes own.screen a) own) }
+
+  -- after an action that closes a string no run is held, and none is the one before
+  closed_after : (a : StreamAction) (v : View) → closes_string a ≡ true → IsClosed (event_done f v (Act a))
+  closed_after (command c) v e = acted_closed (command c) v
+  closed_after exit v e = acted_closed exit v
+  closed_after (print c) v e = cc
+  closed_after (print_string text) v e = cc
+  closed_after (control n) v e = cc
+  closed_after (enter header byte) v e = cc
+  closed_after (data_byte b) v e = cc
+  closed_after (csi a) v e = cc
+  closed_after (esc p) v e = cc
 
   abbrev HasText : StreamAction → Type 0
   HasText a = HasTexts (a ∷ [])
@@ -77,13 +88,13 @@ module _ (f : List ℕ → ℕ) where
   HaveTexts [] = ⊤
   HaveTexts (a ∷ remaining) = HasText a × HaveTexts remaining
 
-  form_done : (closed : Bool) (actions : List StreamAction) (v : View) → HaveTexts actions → (closed ≡ true → v.held ≡ []) → actions_done f v (read_form_after closed actions) ≡ actions_done f v actions
+  form_done : (closed : Bool) (actions : List StreamAction) (v : View) → HaveTexts actions → (closed ≡ true → IsClosed v) → actions_done f v (read_form_after closed actions) ≡ actions_done f v actions
   form_done closed [] v t h = added_done closed false v h
   form_done closed (a ∷ remaining) v t h =
       joined (terminator_before closed (is_string_terminator a) ++ characters_of a) (read_form_after (closes_string a) remaining) v
       ∙ ap (λ w. actions_done f w (read_form_after (closes_string a) remaining))
       (joined (terminator_before closed (is_string_terminator a)) (characters_of a) v ∙ ap (λ w. actions_done f w (characters_of a)) (added_done closed (is_string_terminator a) v h) ∙ one_done a v t.0)
-      ∙ form_done (closes_string a) remaining (event_done f v (Act a)) t.1 (closed_run a v)
+      ∙ form_done (closes_string a) remaining (event_done f v (Act a)) t.1 (closed_after a v)
 
   -- writable lists have texts that are UTF-8, outside of a device control string and within one
   texts_in : (actions : List StreamAction) → (IsWritableAfter None actions → HaveTexts actions) × ((before : ℕ) → IsWritableAfter (Some before) actions → HaveTexts actions)

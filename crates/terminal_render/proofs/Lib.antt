@@ -20,6 +20,7 @@ pub mod SpelledPenLemmas
 pub mod ChangeLemmas
 pub mod RequestLemmas
 pub mod RunningLemmas
+pub mod ActedLemmas
 pub mod ViewLemmas
 pub mod SequenceLemmas
 pub mod CommandLemmas

@@ -1,5 +1,6 @@
--- Runs: the changes that are logged for one have encodings, and the screen after it is spelled, under either profile.
-use Rattle.std.proofs.Common.{◌≡◌, ℕ, Bool, true, false, List, [], ◌∷◌, ◌++◌, fold, refl, inl, subst}
+-- Runs: the changes that are logged for one have encodings, and the screen after it is spelled, under either profile; and
+-- so it is where the last cluster of a run is repeated.
+use Rattle.std.proofs.Common.{◌≡◌, ℕ, zero, suc, Bool, true, false, List, [], ◌∷◌, ◌++◌, fold, refl, inl, subst}
 use Rattle.std.specs.Prelude.{◌&&◌, Option, Some, None, if◌then◌else◌}
 use Rattle.cell_base.specs.Cluster.{clusters}
 use Rattle.cell_base.specs.Screen.{Screen, height, put_run}
@@ -10,23 +11,27 @@ use Rattle.terminal_table.specs.Changes.{run_change}
 use Rattle.terminal_table.specs.Charsets.{Charset, charset_in_use}
 use Rattle.terminal_table.specs.Functions as table
 use Rattle.terminal_table.specs.Modes.{Modes, region_on}
-use Rattle.terminal_table.specs.Request.{Request, Table, Xterm}
-use Rattle.terminal_table.specs.Requests.{request_changes, request_done}
+use Rattle.terminal_table.specs.Led.{led}
+use Rattle.terminal_table.specs.Request.{Request, Table, Xterm, Sets, SetsAlone, Switches, Repeats, Aligns, Replies, Nothing}
 use Rattle.terminal_table.specs.RunTurns.{IsRunning}
-use Rattle.terminal_table.specs.Runs.{Running, asked, columns_for, fits, insert_request, is_put_plainly, prepared, put_next, run_begun, run_changes, run_changes_of, run_done, run_screen, run_step, screen_alone, text_as, text_changes, text_put, with_cluster, wrap_request}
-use Rattle.terminal_table.specs.State.{State, IsState}
-use Rattle.terminal_table.specs.Turns.{IsRunText}
+use Rattle.terminal_table.specs.Runs.{Running, asked, changes_asked, changes_repeated, columns_for, fits, insert_request, is_put_plainly, last_cluster, prepared, put_again, put_next, run_begun, run_changes, run_changes_of, run_done, run_screen, run_step, screen_alone, screen_asked, screen_repeated, text_as, text_changes, text_put, with_cluster, wrap_request}
+use Rattle.terminal_table.specs.State.{HasLast, State, IsState}
+use Rattle.terminal_table.specs.RunText.{IsRunText}
 use Rattle.terminal_table.specs.Xterm as own
-use Rattle.terminal_table.specs.XtermRequests.{next_line_request}
+use Rattle.terminal_table.specs.Xterm.{xterm_screen}
+use Rattle.terminal_table.specs.Feeds.{next_line_request}
 use Rattle.terminal_table.proofs.CharsetLemmas.{run_in}
 use Rattle.terminal_table.proofs.RunLemmas.{run_turns}
-use Rattle.terminal_table.proofs.RunningLemmas.{alone_is, begun_runs, next_runs, text_put_runs, wrapped_runs}
-use Rattle.terminal_render.specs.Spelling.{IsSpelledText, IsSpelledScreen, IsSpelledState, HaveEncodings}
+use Rattle.terminal_table.proofs.RunningLemmas.{alone_is, begun_runs, done_runs, last_runs, next_runs, text_put_runs, wrapped_runs}
+use Rattle.terminal_table.proofs.StateLemmas.{HasSize}
+use Rattle.terminal_table.proofs.XtermLemmas.{xterm_follows}
+use Rattle.terminal_render.specs.Spelling.{IsSpelledRun, IsSpelledText, IsSpelledScreen, IsSpelledState, HaveEncodings}
 use Rattle.terminal_render.proofs.AskedLemmas.{IsSpelledAsked, maybe, next_asked}
 use Rattle.terminal_render.proofs.ChangeLemmas.{is_encoded}
 use Rattle.terminal_render.proofs.DisplayLemmas.{effect_spelled}
-use Rattle.terminal_render.proofs.RequestLemmas.{display_on, display_on_is, moved_has, request_has, request_spelled}
-use Rattle.terminal_render.proofs.TextLemmas.{AreSpelledRuns, spelled_append, spelled_clusters, spelled_in, spelled_nil}
+use Rattle.terminal_render.proofs.RequestLemmas.{changes_have, display_on, display_on_is, moved_has, step_spelled}
+use Rattle.terminal_render.proofs.TextLemmas.{AreSpelledRuns, run_nil, spelled_append, spelled_clusters, spelled_in, spelled_nil}
+use Rattle.terminal_render.proofs.XtermLemmas.{xterm_has, xterm_spelled}
 
 -- ---- what may be asked for before a cluster is spelled
 
@@ -40,6 +45,43 @@ wrap_asked modes columns s = by_test (fits columns s) modes.autowrap
 
 insert_asked : (modes : Modes) (columns : ℕ) (s : Screen) → IsSpelledAsked (insert_request modes columns s)
 insert_asked modes columns s = maybe (modes.insert && fits columns s) (Xterm (own.InsertCharacters columns)) tt
+
+-- ---- what is asked for on a screen
+
+module _ (width_of : List ℕ → ℕ) where
+  pub xterm_logged : (function : own.XtermFunction) (state : State) → IsState width_of state → IsSpelledScreen state.screen
+      → HaveEncodings state.screen.width (height state.screen) (led state.screen (xterm_screen function state.screen))
+  xterm_logged function state h p =
+      let new : Screen = xterm_screen function state.screen in
+      let follows = xterm_follows width_of function state h in
+      moved_has new state.screen (led state.screen new) (record { wide = follows.wide; tall = follows.tall }) (xterm_has width_of function state h p)
+
+  alone_spelled : (s : Screen) → IsSpelledScreen s → IsSpelledState (screen_alone s)
+  alone_spelled s p = record { screen = p; saved = tt; modes = tt }
+
+  screen_asked_spelled : (request : Option Request) (s : Screen) → IsSpelledAsked request → IsState width_of (screen_alone s) → IsSpelledScreen s → IsSpelledScreen (screen_asked request s)
+  screen_asked_spelled None s f h p = p
+  screen_asked_spelled (Some (Table function)) s f h p = (step_spelled width_of function (screen_alone s) h f (alone_spelled s p)).screen
+  screen_asked_spelled (Some (Xterm function)) s f h p = xterm_spelled width_of function (screen_alone s) h p
+  screen_asked_spelled (Some (Sets setting function)) s f h p = p
+  screen_asked_spelled (Some (SetsAlone setting)) s f h p = p
+  screen_asked_spelled (Some (Switches function)) s f h p = p
+  screen_asked_spelled (Some (Repeats count)) s f h p = p
+  screen_asked_spelled (Some Aligns) s f h p = p
+  screen_asked_spelled (Some (Replies text)) s f h p = p
+  screen_asked_spelled (Some Nothing) s f h p = p
+
+  changes_asked_have : (request : Option Request) (s : Screen) → IsSpelledAsked request → IsState width_of (screen_alone s) → IsSpelledScreen s → HaveEncodings s.width (height s) (changes_asked request s)
+  changes_asked_have None s f h p = tt
+  changes_asked_have (Some (Table function)) s f h p = changes_have function (screen_alone s) h.lawful.wide_enough f (alone_spelled s p)
+  changes_asked_have (Some (Xterm function)) s f h p = xterm_logged function (screen_alone s) h p
+  changes_asked_have (Some (Sets setting function)) s f h p = tt
+  changes_asked_have (Some (SetsAlone setting)) s f h p = tt
+  changes_asked_have (Some (Switches function)) s f h p = tt
+  changes_asked_have (Some (Repeats count)) s f h p = tt
+  changes_asked_have (Some Aligns) s f h p = tt
+  changes_asked_have (Some (Replies text)) s f h p = tt
+  changes_asked_have (Some Nothing) s f h p = tt
 
 -- ---- a text that is put
 
@@ -80,9 +122,7 @@ module _ (width_of : List ℕ → ℕ) (d : Display) (before : Screen) where
 
   asked_spelled : (request : Option Request) (run : Running) → IsSpelledAsked request → IsOn run → IsSpelledRunning run → IsSpelledRunning (asked request run)
   asked_spelled request run f h p =
-      let state : State = screen_alone run.led in
-      let spelled : IsSpelledState state = record { screen = p.led; saved = tt; modes = tt } in
-      more run (request_changes request state) (request_done request state).screen h p (request_has width_of request state h.state f spelled) (request_spelled width_of request state h.state f spelled).screen
+      more run (changes_asked request run.led) (screen_asked request run.led) h p (changes_asked_have width_of request run.led f h.state p.led) (screen_asked_spelled width_of request run.led f h.state p.led)
 
   prepared_spelled : (modes : Modes) (columns : ℕ) (run : Running) → IsOn run → IsSpelledRunning run → IsSpelledRunning (prepared modes columns run)
   prepared_spelled modes columns run h p =
@@ -138,3 +178,29 @@ module _ (width_of : List ℕ → ℕ) (text : List ℕ) (state : State) (h : Is
       by_modes : (modes : Option Modes) → HaveEncodings state.screen.width (height state.screen) (run_changes modes width_of state.screen text)
       by_modes None = text_has state.screen.width (height state.screen) text n t
       by_modes (Some modes) = (under modes).changes
+
+-- ---- a cluster that is repeated
+
+last_spelled : (texts : List (List ℕ)) (cluster : List ℕ) → IsSpelledRun cluster → AreSpelledRuns texts → IsSpelledRun (fold (λ _ next. next) cluster texts)
+last_spelled [] cluster t all = t
+last_spelled (text ∷ texts) cluster t all = last_spelled texts text all.0 all.1
+
+module _ (width_of : List ℕ → ℕ) (modes : Modes) (l : HasLast (Some modes)) (t : IsSpelledText modes.last) where
+  cluster_run : IsRunText (last_cluster modes.last)
+  cluster_run = last_runs width_of modes l
+
+  again_spelled : IsSpelledRun (last_cluster modes.last)
+  again_spelled = last_spelled (clusters modes.last) [] run_nil (spelled_clusters modes.last (record { spelled = t; printed = l.printed }))
+
+  -- the changes have encodings, and the screen after them is spelled
+  pub repeated_spelled : (count : ℕ) (s : Screen) → IsState width_of (screen_alone s) → IsSpelledScreen s
+      → HaveEncodings s.width (height s) (changes_repeated modes width_of count s) × IsSpelledScreen (screen_repeated modes width_of count s)
+  repeated_spelled zero s h p = (tt, p)
+  repeated_spelled (suc count) s h p =
+      let on = display_on_is s h.lawful h.whole in
+      let put : Running = put_again modes width_of s in
+      let one = done_spelled width_of (display_on s) s modes (last_cluster modes.last) cluster_run again_spelled.spelled h p on refl in
+      let runs = done_runs width_of (display_on s) s modes (last_cluster modes.last) cluster_run h on refl in
+      let rest = repeated_spelled count put.led runs.state one.led in
+      let size : HasSize put.led s = record { wide = runs.led.wide; tall = runs.led.tall } in
+      (all_joined _ put.changes (changes_repeated modes width_of count put.led) one.changes (moved_has put.led s (changes_repeated modes width_of count put.led) size rest.0), rest.1)

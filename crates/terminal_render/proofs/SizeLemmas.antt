@@ -32,7 +32,7 @@ use Rattle.escape_osc.specs.Sizes.{EndOfLinkTakesSeven, LinksTakeSeven, TextsTak
 use Rattle.escape_stream.specs.StreamAction.{StreamAction, csi}
 use Rattle.escape_stream.specs.StreamText.{action_text, is_string_terminator, closes_string, text_after, texts_after, stream_text}
 use Rattle.screen_effects.specs.Strokes.{TextPart, Control, Plain, with_byte, text_parts}
-use Rattle.terminal_table.specs.Turns.{IsPrinted}
+use Rattle.terminal_table.specs.RunText.{IsPrinted}
 use Rattle.terminal_render.specs.Carried.{IsColor, HaveColors, HasColor, IsChange}
 use Rattle.terminal_render.specs.Links.{is_carried, is_plain_text}
 use Rattle.terminal_render.specs.Pen.{colour_setting, rendition, link_action, attribute_action, unless_default, settings, set, pen_actions, lacks_encoding, pen_rendering, plain_pen, clear_rendering}

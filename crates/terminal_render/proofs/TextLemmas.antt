@@ -24,7 +24,7 @@ use Rattle.screen_effects.specs.Strokes.{Stroke, CarriageReturn, LineFeed, Clust
 use Rattle.terminal_render.proofs.CharacterLemmas.{IsGood, AreGood, above, no_c1_after, parts_good}
 use Rattle.text_clusters.proofs.CutLemmas.{pieces, first, pieces-nil}
 use Rattle.terminal_table.specs.Charsets.{Charset, Ascii, British, Graphics, character_in, graphics, text_in}
-use Rattle.terminal_table.specs.Turns.{IsPrinted, IsRunText}
+use Rattle.terminal_table.specs.RunText.{IsPrinted, IsRunText}
 use Rattle.terminal_table.proofs.CharsetLemmas.{mapped_scalars}
 use Rattle.terminal_table.proofs.RunLemmas.{character_printed, printed_append}
 use Rattle.text_clusters.proofs.TextLemmas.{graphemes_of}

@@ -11,8 +11,9 @@ use Rattle.screen_log.specs.LogSteps.{LogStep, Logged}
 use Rattle.screen_log.specs.Log.{most_due}
 use Rattle.escape_stream.specs.StreamAction.{is_print, printed}
 use Rattle.terminal_table.specs.Modes.{AreNew, Modes}
+use Rattle.terminal_table.specs.Request.{Request}
 use Rattle.terminal_table.specs.State.{State}
-use Rattle.terminal_table.specs.Requests.{acted_changes, request_of}
+use Rattle.terminal_table.specs.Requests.{acted_changes, request_done, request_of}
 use Rattle.terminal_table.specs.Runs.{run_changes_of, run_step}
 use Rattle.terminal_table.specs.History.{Event, Act, Looked, Resized, Forgot}
 use Rattle.terminal_table.specs.Meaning.{View, new_view, new_view_with, settled, event_done}
@@ -24,7 +25,8 @@ use Rattle.terminal_render.specs.Spelling.{IsSpelledState, IsSpelledView, IsSpel
 use Rattle.terminal_render.proofs.TextLemmas.{spelled_append, spelled_nil}
 use Rattle.terminal_render.proofs.DisplayLemmas.{size_spelled, screen_spelled}
 use Rattle.terminal_render.proofs.AskedLemmas.{asked_spelled}
-use Rattle.terminal_render.proofs.RequestLemmas.{actions_have_encodings, display_on, display_on_is, moved_has, new_modes_spelled, request_spelled, resized_modes_spelled}
+use Rattle.terminal_render.proofs.ActedLemmas.{actions_have_encodings, request_spelled}
+use Rattle.terminal_render.proofs.RequestLemmas.{display_on, display_on_is, moved_has, new_modes_spelled, resized_modes_spelled, run_modes_spelled, without_spelled}
 use Rattle.terminal_render.proofs.RunningLemmas.{run_has, run_spelled}
 
 -- ---- views
@@ -38,7 +40,7 @@ new_spelled width height = new_spelled_with None width height tt
 pub settled_spelled : (width_of : List ℕ → ℕ) (v : View) → IsView width_of v → IsSpelledView v → IsSpelledView (settled width_of v)
 settled_spelled width_of v h p = record {
   state = cond_both (length v.held == 0) v.state (run_step width_of v.held v.state) IsSpelledState (λ e. p.state)
-      (λ e. record { screen = run_spelled width_of v.held v.state h.lawful h.plain p.held p.state.screen; saved = p.state.saved; modes = p.state.modes });
+      (λ e. record { screen = run_spelled width_of v.held v.state h.lawful h.plain p.held p.state.screen; saved = p.state.saved; modes = run_modes_spelled v.held v.state.modes h.plain p.held p.state.modes });
   held = spelled_nil;
 }
 
@@ -47,8 +49,10 @@ event_spelled width_of v (Act action) h k p q =
     cond_both (is_print action) _ _ IsSpelledView (λ e. record { state = p.state; held = spelled_append v.held (printed action) p.held q.0 })
     (λ e.
     let own : State = (settled width_of v).state in
+    let request : Option Request = request_of own.modes own.screen action in
     record {
-      state = request_spelled width_of (request_of own.modes own.screen action) own (settled_is width_of v h).lawful (asked_spelled own.modes own.screen action q.1) (settled_spelled width_of v h p).state;
+      state = without_spelled (request_done width_of request own)
+          (request_spelled width_of request own (settled_is width_of v h).lawful (asked_spelled own.modes own.screen action q.1) (settled_spelled width_of v h p).state);
       held = spelled_nil;
     })
 event_spelled width_of v Looked h k p q = settled_spelled width_of v h p
@@ -94,7 +98,7 @@ pub event_encoded : (width_of : List ℕ → ℕ) (v : View) (event : Event) →
 event_encoded width_of v (Act action) h p q =
     let encoded = IsEncoded v.state.screen.width (height v.state.screen) in
     let own = settled width_of v in
-    let changes = acted_changes action own.state in
+    let changes = acted_changes width_of action own.state in
     let has = actions_have_encodings width_of action own.state (settled_is width_of v h).lawful (settled_spelled width_of v h p).state q.1 in
     cond_both (is_print action) [] (run_logged width_of v ++ map Logged changes) (AreEncoded v.state.screen.width (height v.state.screen)) (λ e. tt)
     (λ e.

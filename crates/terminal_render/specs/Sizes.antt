@@ -8,7 +8,7 @@ use Rattle.cell_base.specs.ScreenSize.{IsScreenSize}
 use Rattle.screen_change.specs.ChangeValue.{ChangeValue, Attribute, AllAttributes, Text, Title, is_text}
 use Rattle.escape_stream.specs.StreamAction.{StreamAction}
 use Rattle.escape_stream.specs.StreamText.{stream_text}
-use Rattle.terminal_table.specs.Turns.{IsPrinted}
+use Rattle.terminal_table.specs.RunText.{IsPrinted}
 use Rattle.terminal_render.specs.Carried.{IsChange}
 use Rattle.terminal_render.specs.Rendering.{rendering}
 

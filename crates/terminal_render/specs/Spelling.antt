@@ -26,7 +26,7 @@ use Rattle.terminal_table.specs.Functions as table
 use Rattle.terminal_table.specs.Functions.{ControlFunction, function_of}
 use Rattle.terminal_table.specs.History.{Event, Act}
 use Rattle.terminal_table.specs.Meaning.{View}
-use Rattle.terminal_table.specs.Turns.{IsPrinted}
+use Rattle.terminal_table.specs.RunText.{IsPrinted}
 
 -- a colour that SGR sets, with bytes for components: any except a true colour with a palette fallback
 abbrev pub IsSpelledColor : ColorAttribute → Type 0
@@ -83,10 +83,16 @@ pub record IsSpelledOther (other : OtherScreen) : Type 0 where
   pub rows : All IsSpelledRow other.rows
   pub cursor : IsSpelledSaved other.cursor
 
--- that screen is spelled, if the profile has one
+-- that screen is spelled, and the titles that were pushed, and the run before
+pub record IsSpelledModes (modes : Modes) : Type 0 where
+  pub other : IsSpelledOther modes.other
+  pub titles : All IsSpelledTitle modes.titles
+  pub last : IsSpelledText modes.last
+
+-- these are, if the profile has them
 abbrev pub AreSpelledModes : Option Modes → Type 0
 AreSpelledModes None = ⊤
-AreSpelledModes (Some modes) = IsSpelledOther modes.other
+AreSpelledModes (Some modes) = IsSpelledModes modes
 
 pub record IsSpelledState (state : State) : Type 0 where
   pub screen : IsSpelledScreen state.screen
@@ -166,7 +172,7 @@ abbrev pub ActionsHaveEncodings : Type 0
 ActionsHaveEncodings =
     (width_of : List ℕ → ℕ) (action : StreamAction) (state : State) → IsState width_of state → IsSpelledState state
     → IsSpelledRequest (function_of action)
-    → HaveEncodings state.screen.width (height state.screen) (acted_changes action state)
+    → HaveEncodings state.screen.width (height state.screen) (acted_changes width_of action state)
 
 -- a change that is left out of updates: the position of a pending wrap, or a shape of the cursor
 abbrev pub IsLeftOut : Screen → ChangeValue → Type 0

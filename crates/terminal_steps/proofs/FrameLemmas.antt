@@ -4,7 +4,7 @@ use Rattle.std.specs.Prelude.{◌-◌, ◌==◌, ◌&&◌}
 use Rattle.cell_base.specs.Screen.{Screen, height}
 use Rattle.terminal_table.specs.Modes.{Modes, Region, region_on, region_within}
 use Rattle.terminal_table.specs.RunTurns.{IsAlike}
-use Rattle.terminal_table.specs.XtermRequests.{is_default, scrolls_plainly}
+use Rattle.terminal_table.specs.Feeds.{is_default, scrolls_plainly}
 use Rattle.terminal_steps.specs.RunView.{IsFrame}
 use Rattle.terminal_steps.specs.declared.runs.Frame.{Frame}
 

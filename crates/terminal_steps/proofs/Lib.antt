@@ -1,6 +1,7 @@
 pub mod StateLemmas
 pub mod NumberLemmas
 pub mod TakeLemmas
+pub mod TabLemmas
 pub mod SpellLemmas
 pub mod MemoryLemmas
 pub mod RequestLemmas
@@ -10,3 +11,4 @@ pub mod SwitchLemmas
 pub mod FrameLemmas
 pub mod WholeRunLemmas
 pub mod RunLemmas
+pub mod RepeatLemmas

@@ -1,11 +1,13 @@
 -- Lines that are copied, widened and added.
-use Rattle.std.proofs.Common.{◌≡◌, ℕ, zero, suc, ◌+◌, ◌-◌, ◌<◌, inl, inr, List, [], ◌∷◌, ◌++◌, length, take, map, replicate, refl, sym, ap, subst, ◌∙◌, arith, append-nil}
-use Rattle.std.specs.Prelude.{All, Option, Some, None, if◌then◌else◌}
+use Rattle.std.proofs.Common.{◌≡◌, ℕ, zero, suc, ◌+◌, ◌-◌, ◌<◌, inl, inr, Bool, true, false, List, [], ◌∷◌, ◌++◌, length, take, map, replicate, refl, sym, ap, subst, ◌∙◌, arith, append-nil}
+use Rattle.std.specs.Prelude.{All, nat_le, Option, Some, None, if◌then◌else◌}
 use Rattle.std.specs.List.{take-map}
 use Rattle.std.proofs.lemmas.Bool.Decides.{leb_tells}
 use Rattle.std.proofs.lemmas.List.{length-map, length-take, take_all}
 use Rattle.std.proofs.lemmas.List.Elements.{All-take}
-use Rattle.cell_base.specs.Row.{Row, closed_end, plain_row}
+use Rattle.cell_base.specs.Attributes.{Attributes, plain}
+use Rattle.cell_base.specs.CellContent.{CellContent, cell_of, row_of_cells}
+use Rattle.cell_base.specs.Row.{Row, Narrow, closed_end, plain_row, space}
 use Rattle.cell_base.specs.Screen.{Screen}
 use Rattle.cell_base.specs.WholeRow.{IsWhole}
 use Rattle.cell_base.proofs.RowLemmas.{whole_ends}
@@ -14,6 +16,7 @@ use Rattle.cell_line.specs.LineCalls.{resize}
 use Rattle.cell_line.specs.LineContent.{LineContent}
 use Rattle.screen_difference.specs.FreshCells.{rows_of}
 use Rattle.screen_effects.specs.Resize.{fitted, resized_row}
+use Rattle.terminal_table.specs.Alignment.{alignment_letter}
 use Rattle.terminal_table.specs.Modes.{Modes, other_rows, resized_rows}
 use Rattle.terminal_table.specs.State.{CanBeShown}
 use Rattle.terminal_steps.specs.ProfileView.{HaveWholeRows}
@@ -67,3 +70,19 @@ blanks_next (suc n) x = ap (λ (ys : List _). x ∷ ys) (blanks_next n x)
 
 pub blanks_more : {X : Type 0} (n : ℕ) (x : X) → replicate n x ++ x ∷ [] ≡ replicate (n + 1) x
 blanks_more n x = let next : suc n ≡ n + 1 = omega arith in blanks_next n x ∙ ap (λ k. replicate k x) next
+
+-- a row of one letter, as cells have it
+letter_cell : (of : List ℕ → ℕ) → cell_of (alignment_letter of) 1 plain ≡ record { text = alignment_letter of; width = 1; attributes = plain }
+letter_cell of = by_test (nat_le 2 (of (69 ∷ [])))
+  where
+    by_test : (b : Bool) → cell_of (if b then space else 69 ∷ []) 1 plain ≡ record { text = if b then space else 69 ∷ []; width = 1; attributes = plain }
+    by_test true = refl
+    by_test false = refl
+
+row_of : (n : ℕ) (text : List ℕ) (a : Attributes) → row_of_cells (replicate n (record { text = text; width = 1; attributes = a })) ≡ replicate n (Narrow text a)
+row_of zero text a = refl
+row_of (suc zero) text a = refl
+row_of (suc (suc n)) text a = ap (λ (row : Row). Narrow text a ∷ row) (row_of (suc n) text a)
+
+pub letters_row : (of : List ℕ → ℕ) (n : ℕ) → row_of_cells (replicate n (cell_of (alignment_letter of) 1 plain)) ≡ replicate n (Narrow (alignment_letter of) plain)
+letters_row of n = ap (λ (cell : CellContent). row_of_cells (replicate n cell)) (letter_cell of) ∙ row_of n (alignment_letter of) plain

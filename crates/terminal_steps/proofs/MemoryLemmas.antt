@@ -1,6 +1,6 @@
 -- Why actions are refused memory.
 use Rattle.std.proofs.Common.{◌≡◌, ℕ, ◌<◌, ◌^◌, Bool, true, false, List, [], ◌∷◌, ◌++◌, length, map, fold, inl, inr, refl, sym, ap, subst, ◌∙◌, arith}
-use Rattle.std.specs.Prelude.{◌==◌, ◌⊎◌, Option, if◌then◌else◌}
+use Rattle.std.specs.Prelude.{◌==◌, ◌⊎◌, Option, Some, None, option_map, if◌then◌else◌}
 use Rattle.std.specs.List.{AllByRecursion}
 use Rattle.std.proofs.lemmas.List.{map-append}
 use Rattle.cell_surface.specs.declared.error.SurfaceError.{SurfaceError}
@@ -17,7 +17,7 @@ use Rattle.escape_stream.proofs.StepLemmas.{takes_some}
 use Rattle.terminal_table.specs.History.{Act}
 use Rattle.terminal_table.specs.Logged.{event_logged, events_logged}
 use Rattle.terminal_table.specs.Meaning.{View, event_done}
-use Rattle.terminal_table.specs.Modes.{Modes}
+use Rattle.terminal_table.specs.Modes.{Modes, with_last}
 use Rattle.terminal_table.specs.Request.{Request}
 use Rattle.terminal_table.specs.Requests.{AsksForNothing, request_of}
 use Rattle.terminal_table.specs.Runs.{run_changes_of}
@@ -35,18 +35,30 @@ use Rattle.terminal_steps.proofs.TakeLemmas.{are_prefix, leads}
 
 -- ---- items that ask for nothing
 
--- a view with some modes or none, which holds no run
+-- a view with some modes or none, but for the run before, which holds no run
 record IsQuiet (modes : Option Modes) (v : View) : Type 0 where
   run : v.held ≡ []
-  same : v.state.modes ≡ modes
+  last : List ℕ
+  same : v.state.modes ≡ option_map (with_last last) modes
+
+-- another run before
+again : (text last : List ℕ) (modes : Option Modes) → option_map (with_last text) (option_map (with_last last) modes) ≡ option_map (with_last text) modes
+again text last None = refl
+again text last (Some modes) = refl
+
+quiet_same : (modes : Option Modes) → (last : List ℕ) × (modes ≡ option_map (with_last last) modes)
+quiet_same None = ([], refl)
+quiet_same (Some modes) = (modes.last, refl)
 
 -- what is asked of such a view
 asked : (modes : Option Modes) (v : View) (action : StreamAction) → IsQuiet modes v → AsksForNothing modes action → AsksForNothing v.state.modes action
-asked modes v action q e screen = ap (λ (m : Option Modes). request_of m screen action) q.same ∙ e screen
+asked modes v action q e text screen = ap (λ (m : Option Modes). request_of (option_map (with_last text) m) screen action) q.same ∙ ap (λ (m : Option Modes). request_of m screen action) (again text q.last modes) ∙ e text screen
 
 quiet_next : (f : List ℕ → ℕ) (modes : Option Modes) (v : View) (action : StreamAction) → AsksNothing modes (Single action) → IsQuiet modes v → IsQuiet modes (event_done f v (Act action))
 quiet_next f modes v action asks q =
-    subst (IsQuiet modes) (sym (other_view f v action asks.0 (asked modes v action q asks.1))) (record { run = refl; same = settled_modes f v ∙ q.same })
+    let settled = settled_modes f v in
+    subst (IsQuiet modes) (sym (other_view f v action asks.0 (asked modes v action q asks.1)))
+    (record { run = refl; last = []; same = ap (option_map (with_last [])) settled.1 ∙ again [] settled.0 v.state.modes ∙ ap (option_map (with_last [])) q.same ∙ again [] q.last modes })
 
 quiet_rest : (f : List ℕ → ℕ) (modes : Option Modes) (v : View) (done left : List Item) → AllByRecursion (AsksNothing modes) (done ++ left) → IsQuiet modes v
     → IsQuiet modes (fold (event_done f) v (item_events done)) × AllByRecursion (AsksNothing modes) left
@@ -67,7 +79,7 @@ quiet_item f modes v log (Single action) failed asks q (inr (inr refused)) =
 pub quiet_items : (f : List ℕ → ℕ) (v : View) (log : Sized) (items : List Item) (failed : Bool) → v.held ≡ [] → AllByRecursion (AsksNothing v.state.modes) items → SomeNeedsMemory f v log items failed → ⊥
 quiet_items f v log items failed none all some =
     let modes : Option Modes = v.state.modes in
-    let rest = quiet_rest f modes v some.done (some.item ∷ some.left) (subst (AllByRecursion (AsksNothing modes)) some.whole all) (record { run = none; same = refl }) in
+    let rest = quiet_rest f modes v some.done (some.item ∷ some.left) (subst (AllByRecursion (AsksNothing modes)) some.whole all) (record { run = none; last = (quiet_same modes).0; same = (quiet_same modes).1 }) in
     quiet_item f modes (fold (event_done f) v (item_events some.done)) (fold step_of_kept log (events_logged f v (item_events some.done))) some.item failed rest.1.0 rest.0 some.takes
 
 -- where the parser is refused memory, the bytes take some

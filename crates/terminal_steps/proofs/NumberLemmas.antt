@@ -18,7 +18,8 @@ use Rattle.terminal_table.specs.Modes.{resized_modes}
 use Rattle.terminal_table.specs.Requests.{acted_changes}
 use Rattle.terminal_table.specs.Runs.{run_changes_of}
 use Rattle.terminal_table.specs.Logged.{run_logged, event_logged, events_logged}
-use Rattle.terminal_table.specs.Turns.{AreEvents, IsPrinted}
+use Rattle.terminal_table.specs.RunText.{IsPrinted}
+use Rattle.terminal_table.specs.Turns.{AreEvents}
 use Rattle.terminal_table.proofs.JoinLemmas.{events_logged-append}
 use Rattle.terminal_table.proofs.ListLemmas.{append_nil}
 use Rattle.terminal_table.proofs.StateLemmas.{size_is}
@@ -92,9 +93,9 @@ module _ {W : Type 0} (width_of : W → List ℕ → ℕ) where
   -- ---- the log of an action: the log of a look, and then its changes
 
   act_after : (t : TerminalState W) (action : StreamAction) → is_print action ≡ false
-      → final_log width_of t (Act action ∷ []) ≡ fold step_of_kept (final_log width_of t (Looked ∷ [])) (map Logged (acted_changes action (settled (of t) (view_of t)).state))
+      → final_log width_of t (Act action ∷ []) ≡ fold step_of_kept (final_log width_of t (Looked ∷ [])) (map Logged (acted_changes (of t) action (settled (of t) (view_of t)).state))
   act_after t action p =
-      let changes : List LogStep = map Logged (acted_changes action (settled (of t) (view_of t)).state) in
+      let changes : List LogStep = map Logged (acted_changes (of t) action (settled (of t) (view_of t)).state) in
       ap (λ (b : Bool). fold step_of_kept t.surface.log ((if b then [] else run_logged (of t) (view_of t) ++ changes) ++ [])) p
       ∙ after_prefix t (run_logged (of t) (view_of t)) changes
 
@@ -102,21 +103,21 @@ module _ {W : Type 0} (width_of : W → List ℕ → ℕ) where
   pub looked_past : (t : TerminalState W) (action : StreamAction) → is_print action ≡ false → NeedsNumber width_of t (Looked ∷ []) → NeedsNumber width_of t (Act action ∷ [])
   looked_past t action p needs = λ ready events.
       subst Past (sym (act_after t action p))
-      (past_after (final_log width_of t (Looked ∷ [])) (map Logged (acted_changes action (settled (of t) (view_of t)).state)) (needs ready (tt, tt)))
+      (past_after (final_log width_of t (Looked ∷ [])) (map Logged (acted_changes (of t) action (settled (of t) (view_of t)).state)) (needs ready (tt, tt)))
 
   -- nor where one of its changes has none
   pub acted_past : (t u : TerminalState W) (action : StreamAction) → is_print action ≡ false → Does width_of t u (Looked ∷ [])
-      → (IsReady width_of u → 2 ^ 64 ≤ number_of u.surface + length (acted_changes action (view_of u).state)) → NeedsNumber width_of t (Act action ∷ [])
+      → (IsReady width_of u → 2 ^ 64 ≤ number_of u.surface + length (acted_changes (of u) action (view_of u).state)) → NeedsNumber width_of t (Act action ∷ [])
   acted_past t u action p does past = λ ready events.
       let had = does ready (tt, tt) in
-      let changes : List ChangeValue = acted_changes action (view_of u).state in
+      let changes : List ChangeValue = acted_changes (of u) action (view_of u).state in
       let there : Past (fold step_of_kept u.surface.log (map Logged changes)) = subst (λ n. 2 ^ 64 ≤ n) (sym (logged_number changes u.surface.log)) (past had.ready) in
       subst Past (sym (act_after t action p))
-      (subst Past (λ i. fold step_of_kept (had.log i) (map Logged (acted_changes action (had.view i).state))) there)
+      (subst Past (λ i. fold step_of_kept (had.log i) (map Logged (acted_changes (width_of (had.widths i)) action (had.view i).state))) there)
 
   -- an action after the run is refused memory as its own request or one of its changes is
   pub acted_memory : (t u : TerminalState W) (action : StreamAction) (failed : Bool) → Does width_of t u (Looked ∷ [])
-      → (IsReady width_of u → TakesOwnMemory (asked_in (view_of u).state action) (number_of u.surface) ⊎ IsChangeRefused (acted_changes action (view_of u).state) (number_of u.surface) failed)
+      → (IsReady width_of u → TakesOwnMemory (asked_in (view_of u).state action) (number_of u.surface) ⊎ IsChangeRefused (acted_changes (of u) action (view_of u).state) (number_of u.surface) failed)
       → IsReady width_of t → is_print action ≡ false → TakesMemory (of t) (view_of t) t.surface.log (Act action) failed
   acted_memory t u action failed does refused ready p =
       let had = does ready (tt, tt) in
@@ -124,12 +125,12 @@ module _ {W : Type 0} (width_of : W → List ℕ → ℕ) where
       by_cause had log (refused had.ready)
     where
       by_cause : Had width_of t u (Looked ∷ []) → u.surface.log ≡ fold step_of_kept t.surface.log (run_logged (of t) (view_of t))
-          → TakesOwnMemory (asked_in (view_of u).state action) (number_of u.surface) ⊎ IsChangeRefused (acted_changes action (view_of u).state) (number_of u.surface) failed
+          → TakesOwnMemory (asked_in (view_of u).state action) (number_of u.surface) ⊎ IsChangeRefused (acted_changes (of u) action (view_of u).state) (number_of u.surface) failed
           → TakesMemory (of t) (view_of t) t.surface.log (Act action) failed
       by_cause had log (inl own) = inr (inl (subst (λ (T : Type 0). T) (λ i. TakesOwnMemory (asked_in (had.view i).state action) (log i).log.number) own))
       by_cause had log (inr change) =
-          let changes : List ChangeValue = acted_changes action (settled (of t) (view_of t)).state in
-          let same : length (acted_changes action (view_of u).state) ≡ length changes = ap (λ (v : View). length (acted_changes action v.state)) had.view in
+          let changes : List ChangeValue = acted_changes (of t) action (settled (of t) (view_of t)).state in
+          let same : length (acted_changes (of u) action (view_of u).state) ≡ length changes = (λ i. length (acted_changes (width_of (had.widths i)) action (had.view i).state)) in
           let logged : event_logged (of t) (view_of t) (Act action) ≡ run_logged (of t) (view_of t) ++ map Logged changes = ap (λ (b : Bool). if b then [] else run_logged (of t) (view_of t) ++ map Logged changes) p in
           let size = ap length logged ∙ length-append (run_logged (of t) (view_of t)) (map Logged changes) in
           let as_many = length-map changes Logged in

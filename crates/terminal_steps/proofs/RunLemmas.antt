@@ -17,10 +17,9 @@ use Rattle.screen_log.specs.LogSteps.{Logged, step_of_kept}
 use Rattle.terminal_table.specs.Charsets.{Charset, text_in}
 use Rattle.terminal_table.specs.Modes.{Modes}
 use Rattle.terminal_table.specs.Request.{Request}
-use Rattle.terminal_table.specs.Requests.{request_changes}
 use Rattle.terminal_table.specs.RunTurns.{IsRunning}
-use Rattle.terminal_table.specs.Runs.{Running, asked, insert_request, prepared, put_next, run_begun, run_done, screen_alone, text_changes, text_put, with_cluster, wrap_request}
-use Rattle.terminal_table.specs.Turns.{IsRunText}
+use Rattle.terminal_table.specs.Runs.{Running, asked, changes_asked, insert_request, prepared, put_next, run_begun, run_done, text_changes, text_put, with_cluster, wrap_request}
+use Rattle.terminal_table.specs.RunText.{IsRunText}
 use Rattle.terminal_table.proofs.CharsetLemmas.{run_in, some_in}
 use Rattle.terminal_table.proofs.ClusterLemmas.{AreRunTexts, clusters_run}
 use Rattle.terminal_table.proofs.RunningLemmas.{begun_runs, cluster_runs, inserted_runs, text_put_runs, wrapped_runs}
@@ -91,20 +90,20 @@ module _ {W : Type 0} (width_of : W → List ℕ → ℕ) where
   -- what is asked for is done
   asked_goes : (request : Screen → Option Request) (before now next : Surface W) (result : Result ⊤ SurfaceError) (running : Running) → Led before now running
       → IsRunning (width_of before.grid.widths) (shown_by before) (shown_by before).screen (asked (request running.led) running)
-      → CopiesAndAdds width_of now (request_changes (request (shown_by now).screen) (screen_alone (shown_by now).screen)) result next
+      → CopiesAndAdds width_of now (changes_asked (request (shown_by now).screen) (shown_by now).screen) result next
       → Goes before result next (asked (request running.led) running)
   asked_goes request before now next result running l r a =
-      step true before now next result running (request_changes (request running.led) (screen_alone running.led)) (asked (request running.led) running) refl l r
-      (subst (λ (s : Screen). CopiesAndAdds width_of now (request_changes (request s) (screen_alone s)) result next) (shows before now running l) a)
+      step true before now next result running (changes_asked (request running.led) running.led) (asked (request running.led) running) refl l r
+      (subst (λ (s : Screen). CopiesAndAdds width_of now (changes_asked (request s) s) result next) (shows before now running l) a)
 
   pub wrap_goes : (modes : Modes) (columns : ℕ) (before now next : Surface W) (result : Result ⊤ SurfaceError) (running : Running) → Led before now running
-      → CopiesAndAdds width_of now (request_changes (wrap_request modes columns (shown_by now).screen) (screen_alone (shown_by now).screen)) result next
+      → CopiesAndAdds width_of now (changes_asked (wrap_request modes columns (shown_by now).screen) (shown_by now).screen) result next
       → Goes before result next (asked (wrap_request modes columns running.led) running)
   wrap_goes modes columns before now next result running l =
       asked_goes (wrap_request modes columns) before now next result running l (wrapped_runs (width_of before.grid.widths) (shown_by before) (shown_by before).screen modes columns running l.going)
 
   pub insert_goes : (modes : Modes) (columns : ℕ) (before now next : Surface W) (result : Result ⊤ SurfaceError) (running : Running) → Led before now running
-      → CopiesAndAdds width_of now (request_changes (insert_request modes columns (shown_by now).screen) (screen_alone (shown_by now).screen)) result next
+      → CopiesAndAdds width_of now (changes_asked (insert_request modes columns (shown_by now).screen) (shown_by now).screen) result next
       → Goes before result next (asked (insert_request modes columns running.led) running)
   insert_goes modes columns before now next result running l =
       asked_goes (insert_request modes columns) before now next result running l (inserted_runs (width_of before.grid.widths) (shown_by before) (shown_by before).screen modes columns running l.going)

@@ -13,7 +13,8 @@ use Rattle.terminal_table.specs.History as history
 use Rattle.terminal_table.specs.History.{Event, Act, events}
 use Rattle.terminal_table.specs.Logged.{event_logged, events_logged, logged}
 use Rattle.terminal_table.specs.Meaning.{View, event_done, after}
-use Rattle.terminal_table.specs.Turns.{IsRunText, AreEvents}
+use Rattle.terminal_table.specs.RunText.{IsRunText}
+use Rattle.terminal_table.specs.Turns.{AreEvents}
 use Rattle.terminal_table.proofs.ListLemmas.{append_nil, drop_past}
 use Rattle.terminal_table.proofs.PrintLemmas.{AllCut, events_are}
 use Rattle.terminal_table.proofs.RunLemmas.{no_text, text_append}

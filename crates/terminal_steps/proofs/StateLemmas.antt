@@ -14,13 +14,13 @@ use Rattle.screen_effects.specs.Display.{IsDisplay}
 use Rattle.screen_effects.proofs.EffectLaws.{replay_is}
 use Rattle.terminal_table.specs.Requests.{acted, acted_changes}
 use Rattle.terminal_table.specs.Charsets.{Charset, charset_in_use, text_in}
-use Rattle.terminal_table.specs.Modes.{Modes}
-use Rattle.terminal_table.specs.Runs.{run_changes, run_changes_of, run_step}
+use Rattle.terminal_table.specs.Modes.{Modes, with_last}
+use Rattle.terminal_table.specs.Runs.{run_changes, run_changes_of, run_modes, run_step, text_as}
 use Rattle.terminal_table.specs.History.{Act, Looked}
 use Rattle.terminal_table.specs.Meaning.{View, settled}
 use Rattle.terminal_table.specs.Logged.{run_logged}
 use Rattle.terminal_table.specs.State.{State, IsState}
-use Rattle.terminal_table.specs.Turns.{IsPrinted, IsRunText}
+use Rattle.terminal_table.specs.RunText.{IsPrinted, IsRunText}
 use Rattle.terminal_table.proofs.CharsetLemmas.{run_in, some_in}
 use Rattle.terminal_table.proofs.RequestLemmas.{actions_are_logged, actions_keep_states}
 use Rattle.terminal_table.proofs.RunningLemmas.{alone_is, run_is, run_step_turns}
@@ -43,7 +43,7 @@ module _ {W : Type 0} (width_of : W → List ℕ → ℕ) where
 
   -- the run was added as a change, and nothing is held after it
   pub settled_had : (t r : TerminalState W) (s : Surface W) → (length (string_bytes t.held) == 0) ≡ false
-      → r.surface ≡ s → string_bytes r.held ≡ [] → r.saved ≡ t.saved → r.replies.items ≡ t.replies.items → r.modes ≡ t.modes
+      → r.surface ≡ s → string_bytes r.held ≡ [] → r.saved ≡ t.saved → r.replies.items ≡ t.replies.items → kept_modes r.modes ≡ run_modes (string_bytes t.held) (kept_modes t.modes)
       → AddsAll width_of t.surface s (run_changes_of (of t) (string_bytes t.held) (view_of t).state) → s.log.log.number < 2 ^ 64 → IsReady width_of t → Had width_of t r (Looked ∷ [])
   settled_had t r s e k n v q m a f h = record {
     view = (λ i. record { state = states i; stream = []; held = n i }) ∙ sym (ap ended e);
@@ -72,7 +72,7 @@ module _ {W : Type 0} (width_of : W → List ℕ → ℕ) where
       screens = ap (λ x. (shown_by x).screen) k ∙ ap (λ d. d.screen) a.shown ∙ (run_step_turns (of t) text (view_of t).state (shown_by t.surface) run h.lawful h.shown refl).screen
 
       states : (view_of r).state ≡ run_step (of t) text (view_of t).state
-      states = λ i. record { screen = screens i; saved = v i; replies = q i; modes = kept_modes (m i) }
+      states = λ i. record { screen = screens i; saved = v i; replies = q i; modes = m i }
 
       ended : Bool → View
       ended b = record { state = if b then (view_of t).state else run_step (of t) text (view_of t).state; stream = []; held = [] }
@@ -101,8 +101,21 @@ module _ {W : Type 0} (width_of : W → List ℕ → ℕ) where
       subst (λ (kept : Option Modes). AddsWith true width_of t.surface (run_changes kept (of t) (shown_by t.surface).screen (string_bytes t.held)) result after) (sym (ap kept_modes is))
       (subst (λ (s : Surface W). PutsRun width_of (modes_in modes) s (string_bytes t.held) result after) same (subst (λ (x : String Global). PutsRun width_of (modes_in modes) before (string_bytes x) result after) held puts) (can_put t ready))
 
+  -- it is kept as the run before; a plain terminal keeps nothing
+  pub plain_kept : (t : TerminalState W) (result : Result ⊤ SurfaceError) → t.modes ≡ None → IfOk result (λ _. kept_modes t.modes ≡ run_modes (string_bytes t.held) (kept_modes t.modes))
+  plain_kept t (Ok x) e = subst (λ (m : Option code.Modes). kept_modes m ≡ run_modes (string_bytes t.held) (kept_modes m)) (sym e) refl
+  plain_kept t (Err error) e = tt
+
+  pub xterm_kept : (t : TerminalState W) (text : String Global) (modes next : code.Modes) (result : Result ⊤ SurfaceError) → text ≡ t.held → t.modes ≡ Some modes
+      → OnOk result (modes_in next ≡ with_last (text_as (modes_in modes) (string_bytes text)) (modes_in modes))
+      → IfOk result (λ _. Some (modes_in next) ≡ run_modes (string_bytes t.held) (kept_modes t.modes))
+  xterm_kept t text modes next (Ok x) held is last =
+      ap Some (subst (λ (b : String Global). modes_in next ≡ with_last (text_as (modes_in modes) (string_bytes b)) (modes_in modes)) held last)
+      ∙ subst (λ (m : Option code.Modes). run_modes (string_bytes t.held) (Some (modes_in modes)) ≡ run_modes (string_bytes t.held) (kept_modes m)) (sym is) refl
+  xterm_kept t text modes next (Err error) held is last = tt
+
   -- the run was put, or refused
-  pub settled_on : (t r : TerminalState W) (result : Result ⊤ SurfaceError) → (length (string_bytes t.held) == 0) ≡ false → string_bytes r.held ≡ [] → r.saved ≡ t.saved → r.replies.items ≡ t.replies.items → r.modes ≡ t.modes
+  pub settled_on : (t r : TerminalState W) (result : Result ⊤ SurfaceError) → (length (string_bytes t.held) == 0) ≡ false → string_bytes r.held ≡ [] → r.saved ≡ t.saved → r.replies.items ≡ t.replies.items → IfOk result (λ _. kept_modes r.modes ≡ run_modes (string_bytes t.held) (kept_modes t.modes))
       → (IsReady width_of t → IfOk result (λ _. AddsAll width_of t.surface r.surface (run_changes_of (of t) (string_bytes t.held) (view_of t).state)))
       → (IsReady width_of t → IfOk result (λ _. number_of t.surface < 2 ^ 64 → number_of r.surface < 2 ^ 64)) → OnOk result (Does width_of t r (Looked ∷ []))
   settled_on t r (Ok x) e n v q m added fits = λ ready events. settled_had t r r.surface e refl n v q m (added ready) (fits ready ready.fits) ready
@@ -112,37 +125,44 @@ module _ {W : Type 0} (width_of : W → List ℕ → ℕ) where
   pub act_had : (t u : TerminalState W) (s : Surface W) (action : StreamAction) (r : TerminalState W) → is_print action ≡ false
       → r.surface ≡ s → string_bytes r.held ≡ string_bytes u.held
       → Had width_of t u (Looked ∷ [])
-      → AddsAll width_of u.surface s (acted_changes action (view_of u).state)
-      → r.saved ≡ (acted action (view_of u).state).saved
-      → r.replies.items ≡ (acted action (view_of u).state).replies → kept_modes r.modes ≡ (acted action (view_of u).state).modes → s.log.log.number < 2 ^ 64
+      → AddsAll width_of u.surface s (acted_changes (of u) action (view_of u).state)
+      → r.saved ≡ (acted (of u) action (view_of u).state).saved
+      → r.replies.items ≡ (acted (of u) action (view_of u).state).replies → kept_modes r.modes ≡ (acted (of u) action (view_of u).state).modes → s.log.log.number < 2 ^ 64
       → Had width_of t r (Act action ∷ [])
   act_had t u s action r p e k h a v q m f = record {
-    view = (λ i. record { state = states i; stream = []; held = k i }) ∙ ap {B = View} (λ (x : View). record x { state = acted action x.state }) h.view ∙ sym (ap done p);
-    log = ap (λ x. x.log) e ∙ a.log ∙ ap (λ l. fold step_of_kept l (map Logged changes)) h.log
-        ∙ sym (fold-append step_of_kept t.surface.log (run_logged (of t) (view_of t) ++ []) (map Logged changes))
-        ∙ ap (λ xs. fold step_of_kept t.surface.log xs) (ap (λ xs. xs ++ map Logged changes) (append_nil (run_logged (of t) (view_of t))) ∙ ap (λ x. run_logged (of t) (view_of t) ++ map Logged (acted_changes action x.state)) h.view ∙ sym (append_nil (run_logged (of t) (view_of t) ++ map Logged (acted_changes action (settled (of t) (view_of t)).state))) ∙ sym (ap logged p));
+    view = (λ i. record { state = states i; stream = []; held = k i }) ∙ ap {B = View} (λ (f : List ℕ → ℕ). record (view_of u) { state = acted f action (view_of u).state }) alike ∙ ap {B = View} (λ (x : View). record x { state = acted (of t) action x.state }) h.view ∙ sym (ap done p);
+    log = ap (λ x. x.log) e ∙ a.log ∙ ap (λ (f : List ℕ → ℕ). fold step_of_kept u.surface.log (map Logged (acted_changes f action (view_of u).state))) alike ∙ ap (λ l. fold step_of_kept l (map Logged there)) h.log
+        ∙ sym (fold-append step_of_kept t.surface.log (run_logged (of t) (view_of t) ++ []) (map Logged there))
+        ∙ ap (λ xs. fold step_of_kept t.surface.log xs) (ap (λ xs. xs ++ map Logged there) (append_nil (run_logged (of t) (view_of t))) ∙ ap (λ x. run_logged (of t) (view_of t) ++ map Logged (acted_changes (of t) action x.state)) h.view ∙ sym (append_nil (run_logged (of t) (view_of t) ++ map Logged (acted_changes (of t) action (settled (of t) (view_of t)).state))) ∙ sym (ap logged p));
     widths = ap (λ x. x.grid.widths) e ∙ a.widths ∙ h.widths;
     shape = ap (λ x. (shown_by x).shape) e ∙ ap (λ d. d.shape) a.shown ∙ (actions_are_logged (of u) action (view_of u).state (shown_by u.surface) h.ready.lawful h.ready.shown refl).shape ∙ h.shape;
     ready = record {
       stays = ap (λ x. x.is_failed) e ∙ a.stays;
       shown = subst (λ x. IsDisplay (shown_by x)) (sym e) (subst IsDisplay (sym a.shown) (replay_is (of u) changes (shown_by u.surface) h.ready.shown));
-      lawful = lawful_after u r (acted action (view_of u).state) (ap (λ x. x.grid.widths) e ∙ a.widths) states (actions_keep_states (of u) action (view_of u).state h.ready.lawful);
+      lawful = lawful_after u r (acted (of u) action (view_of u).state) (ap (λ x. x.grid.widths) e ∙ a.widths) states (actions_keep_states (of u) action (view_of u).state h.ready.lawful);
       fits = subst (λ (x : Surface W). x.log.log.number < 2 ^ 64) (sym e) f;
       plain = subst IsPrinted (sym k) h.ready.plain;
     };
   }
     where
-      changes : List ChangeValue
-      changes = acted_changes action (view_of u).state
+      -- by the widths of the first terminal
+      alike : of u ≡ of t
+      alike = ap width_of h.widths
 
-      screens : (shown_by r.surface).screen ≡ (acted action (view_of u).state).screen
+      changes : List ChangeValue
+      changes = acted_changes (of u) action (view_of u).state
+
+      there : List ChangeValue
+      there = acted_changes (of t) action (view_of u).state
+
+      screens : (shown_by r.surface).screen ≡ (acted (of u) action (view_of u).state).screen
       screens = ap (λ x. (shown_by x).screen) e ∙ ap (λ d. d.screen) a.shown ∙ (actions_are_logged (of u) action (view_of u).state (shown_by u.surface) h.ready.lawful h.ready.shown refl).screen
 
-      states : (view_of r).state ≡ acted action (view_of u).state
+      states : (view_of r).state ≡ acted (of u) action (view_of u).state
       states = λ i. record { screen = screens i; saved = v i; replies = q i; modes = m i }
 
       done : Bool → View
-      done b = if b then record (view_of t) { held = (view_of t).held ++ printed action } else record (settled (of t) (view_of t)) { state = acted action (settled (of t) (view_of t)).state }
+      done b = if b then record (view_of t) { held = (view_of t).held ++ printed action } else record (settled (of t) (view_of t)) { state = acted (of t) action (settled (of t) (view_of t)).state }
 
       logged : Bool → List LogStep
-      logged b = (if b then [] else run_logged (of t) (view_of t) ++ map Logged (acted_changes action (settled (of t) (view_of t)).state)) ++ []
+      logged b = (if b then [] else run_logged (of t) (view_of t) ++ map Logged (acted_changes (of t) action (settled (of t) (view_of t)).state)) ++ []

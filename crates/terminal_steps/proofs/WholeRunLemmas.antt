@@ -18,13 +18,12 @@ use Rattle.terminal_table.specs.Changes.{run_change}
 use Rattle.terminal_table.specs.Functions.{Moves, NextRow, Right}
 use Rattle.terminal_table.specs.Modes.{Modes, Region, region_on}
 use Rattle.terminal_table.specs.Request.{Request, Table, Xterm}
-use Rattle.terminal_table.specs.Requests.{request_changes, request_done}
 use Rattle.terminal_table.specs.RunTurns.{IsAlike, IsRunning}
-use Rattle.terminal_table.specs.Runs.{Running, asked, columns_for, fits, insert_request, is_put_plainly, prepared, put_next, run_begun, run_done, screen_alone, text_changes, text_put, with_cluster, wrap_request}
+use Rattle.terminal_table.specs.Runs.{Running, asked, changes_asked, columns_for, fits, insert_request, is_put_plainly, prepared, put_next, run_begun, run_done, screen_alone, screen_asked, text_changes, text_put, with_cluster, wrap_request}
 use Rattle.terminal_table.specs.State.{IsState}
-use Rattle.terminal_table.specs.Turns.{IsRunText}
+use Rattle.terminal_table.specs.RunText.{IsRunText}
 use Rattle.terminal_table.specs.Xterm.{InsertCharacters, NextLine, xterm_screen}
-use Rattle.terminal_table.specs.XtermRequests.{feeds_plainly, is_default, next_line_request, scrolls_plainly}
+use Rattle.terminal_table.specs.Feeds.{feeds_plainly, is_default, next_line_request, scrolls_plainly}
 use Rattle.terminal_table.proofs.ClusterLemmas.{AreRunTexts, clusters_run}
 use Rattle.terminal_table.proofs.ListLemmas.{append_nil}
 use Rattle.terminal_table.proofs.RunningLemmas.{begun_runs, next_runs, put_alike, text_put_runs}
@@ -70,26 +69,26 @@ some_of (byte ∷ bytes) h = omega arith
 
 module _ (width_of : List ℕ → ℕ) where
   -- what is asked for where a cluster doesn't fit, and where columns are inserted
-  wrap_some : (modes : Modes) (columns : ℕ) (s : Screen) → IsState width_of (screen_alone s) → fits columns s ≡ false → 0 < length (request_changes (wrap_request modes columns s) (screen_alone s))
+  wrap_some : (modes : Modes) (columns : ℕ) (s : Screen) → IsState width_of (screen_alone s) → fits columns s ≡ false → 0 < length (changes_asked (wrap_request modes columns s) s)
   wrap_some modes columns s h e = rw e (by_wrap modes.autowrap)
     where
       region : Region
       region = region_on modes s
 
-      by_feed : (plain : Bool) → 0 < length (request_changes (Some (if plain then Table NextRow else Xterm (NextLine region))) (screen_alone s))
+      by_feed : (plain : Bool) → 0 < length (changes_asked (Some (if plain then Table NextRow else Xterm (NextLine region))) s)
       by_feed true = omega arith
       by_feed false = led_some width_of s (xterm_screen (NextLine region) s) (xterm_follows width_of (NextLine region) (screen_alone s) h)
 
-      by_wrap : (wraps : Bool) → 0 < length (request_changes (if wraps then Some (next_line_request region s) else Some (Table (Moves (Right 0)))) (screen_alone s))
+      by_wrap : (wraps : Bool) → 0 < length (changes_asked (if wraps then Some (next_line_request region s) else Some (Table (Moves (Right 0)))) s)
       by_wrap true = by_feed (feeds_plainly region s)
       by_wrap false = omega arith
 
-  insert_some : (modes : Modes) (columns : ℕ) (s : Screen) → IsState width_of (screen_alone s) → modes.insert ≡ true → fits columns s ≡ true → 0 < length (request_changes (insert_request modes columns s) (screen_alone s))
+  insert_some : (modes : Modes) (columns : ℕ) (s : Screen) → IsState width_of (screen_alone s) → modes.insert ≡ true → fits columns s ≡ true → 0 < length (changes_asked (insert_request modes columns s) s)
   insert_some modes columns s h i e = rw i (rw e (led_some width_of s (xterm_screen (InsertCharacters columns) s) (xterm_follows width_of (InsertCharacters columns) (screen_alone s) h)))
 
   -- changes are only added
-  asked_grows : (request : Option Request) (run : Running) → length run.changes + length (request_changes request (screen_alone run.led)) ≤ length (asked request run).changes
-  asked_grows request run = let all = length-append run.changes (request_changes request (screen_alone run.led)) in omega (arith, all)
+  asked_grows : (request : Option Request) (run : Running) → length run.changes + length (changes_asked request run.led) ≤ length (asked request run).changes
+  asked_grows request run = let all = length-append run.changes (changes_asked request run.led) in omega (arith, all)
 
   pub put_grows : (run : Running) → length run.changes + length (text_changes run.text) ≤ length (text_put width_of run).changes
   put_grows run = let all = length-append run.changes (text_changes run.text) in omega (arith, all)
@@ -174,16 +173,16 @@ module _ (width_of : List ℕ → ℕ) where
           let last = wrap_grows modes columns run in
           omega (arith, one, more, last)
       by_fit true e inserts i =
-          let same : wrapped.led ≡ run.led = ap (λ (b : Bool). (request_done (if b then None else if modes.autowrap then Some (next_line_request (region_on modes run.led) run.led) else Some (Table (Moves (Right 0)))) (screen_alone run.led)).screen) e in
+          let same : wrapped.led ≡ run.led = ap (λ (b : Bool). screen_asked (if b then None else if modes.autowrap then Some (next_line_request (region_on modes run.led) run.led) else Some (Table (Moves (Right 0)))) run.led) e in
           by_insert same e inserts i
         where
           by_insert : wrapped.led ≡ run.led → fits columns run.led ≡ true → (inserts : Bool) → modes.insert ≡ inserts → 0 < length (prepared modes columns run).changes
           by_insert same e true i =
-              let one = subst (λ (s : Screen). 0 < length (request_changes (insert_request modes columns s) (screen_alone s))) (sym same) (insert_some modes columns run.led h i e) in
+              let one = subst (λ (s : Screen). 0 < length (changes_asked (insert_request modes columns s) s)) (sym same) (insert_some modes columns run.led h i e) in
               let more = asked_grows (insert_request modes columns wrapped.led) wrapped in
               omega (arith, one, more)
           by_insert same e false i =
-              let still : (prepared modes columns run).led ≡ wrapped.led = ap (λ (b : Bool). (request_done (if b && fits columns wrapped.led then Some (Xterm (InsertCharacters columns)) else None) (screen_alone wrapped.led)).screen) i in
+              let still : (prepared modes columns run).led ≡ wrapped.led = ap (λ (b : Bool). screen_asked (if b && fits columns wrapped.led then Some (Xterm (InsertCharacters columns)) else None) wrapped.led) i in
               let clash : true ≡ false = sym e ∙ ap (fits columns) (sym (still ∙ same)) ∙ over in cc
 
   -- a cluster is put, or something is asked for before it

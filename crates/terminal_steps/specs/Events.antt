@@ -8,7 +8,8 @@ use Rattle.terminal_table.specs.History.{Event}
 use Rattle.terminal_table.specs.Meaning.{View, event_done}
 use Rattle.terminal_table.specs.Logged.{events_logged}
 use Rattle.terminal_table.specs.State.{IsState}
-use Rattle.terminal_table.specs.Turns.{IsPrinted, AreEvents}
+use Rattle.terminal_table.specs.RunText.{IsPrinted}
+use Rattle.terminal_table.specs.Turns.{AreEvents}
 use Rattle.terminal_steps.specs.ProfileView.{kept_modes}
 use Rattle.terminal_steps.specs.TerminalStates.{state_of}
 use Rattle.terminal_steps.specs.declared.state.TerminalState.{TerminalState}
@@ -16,7 +17,11 @@ use Rattle.terminal_steps.specs.declared.state.TerminalState.{TerminalState}
 -- the state, and the run that is held, after a stream of which nothing is unfinished
 abbrev pub view_of : {W : Type 0} → TerminalState W → View
 view_of t =
-    record { state = state_of t.surface t.saved t.replies.items (kept_modes t.modes); stream = []; held = string_bytes t.held }
+    record {
+      state = state_of t.surface t.saved t.replies.items (kept_modes t.modes);
+      stream = [];
+      held = string_bytes t.held;
+    }
 
 -- its surface
 abbrev pub surface_in : {W : Type 0} → TerminalState W → Surface W

@@ -1,10 +1,12 @@
 -- The control functions of the table, and those of xterm's own, that those of the code represent.
-use Rattle.std.specs.Prelude.{Option, option_map}
+use Rattle.std.specs.Prelude.{ℕ, List, Option, option_map}
 use Rattle.std.specs.String.{string_bytes}
 use Rattle.terminal_table.specs.Functions as table
 use Rattle.terminal_table.specs.Modes.{Region}
 use Rattle.terminal_table.specs.Request as request
 use Rattle.terminal_table.specs.Screens as screens
+use Rattle.terminal_table.specs.OtherRequests.{extended_position_text, mode_report, primary_reply, private_report}
+use Rattle.terminal_table.specs.OtherRequests.{secondary_reply}
 use Rattle.terminal_table.specs.Steps.{position_text}
 use Rattle.terminal_table.specs.Xterm as xterm
 use Rattle.terminal_steps.specs.ProfileView.{charset_in}
@@ -14,6 +16,8 @@ use Rattle.terminal_steps.specs.declared.function.ControlFunction.{ControlFuncti
 use Rattle.terminal_steps.specs.declared.function.ControlFunction.TheVariants as code
 use Rattle.terminal_steps.specs.declared.xterm.XtermFunction.{XtermFunction}
 use Rattle.terminal_steps.specs.declared.xterm.XtermFunction.TheVariants as own
+use Rattle.terminal_steps.specs.declared.replies.Reply.{Reply}
+use Rattle.terminal_steps.specs.declared.replies.Reply.TheVariants as reply
 use Rattle.terminal_steps.specs.declared.requests.Request.{Request}
 use Rattle.terminal_steps.specs.declared.requests.Request.TheVariants as asked
 use Rattle.terminal_steps.specs.declared.requests.Setting.{Setting}
@@ -85,16 +89,36 @@ screen_function switch.ClearAndShowOther = screens.ClearAndShowOther
 screen_function switch.SaveAndClear = screens.SaveAndClear
 screen_function switch.SaveAndShowCleared = screens.SaveAndShowCleared
 screen_function switch.ShowAndRestore = screens.ShowAndRestore
+screen_function switch.SoftReset = screens.SoftReset
+screen_function switch.PushTitle = screens.PushTitle
+screen_function switch.PopTitle = screens.PopTitle
 
 abbrev pub setting_of : Setting → request.Setting
-setting_of set.Initial = request.ToInitial
+setting_of set.Reset = request.ToReset
 setting_of (set.Region top bottom) = request.ToRegion (record { top = top; bottom = bottom })
 setting_of (set.Origin origin) = request.ToOrigin origin
 setting_of (set.Insert insert) = request.ToInsert insert
 setting_of (set.Autowrap autowrap) = request.ToAutowrap autowrap
+setting_of (set.Newline newline) = request.ToNewline newline
+setting_of (set.Stop column stop) = request.ToStop column stop
+setting_of (set.NoStops width) = request.ToNoStops width
 setting_of (set.First charset) = request.ToFirst (charset_in charset)
 setting_of (set.Second charset) = request.ToSecond (charset_in charset)
 setting_of (set.Shift shifted) = request.ToShift shifted
+setting_of (set.Flag flag on) = request.ToFlag flag on
+setting_of (set.Mouse protocol) = request.ToMouse protocol
+setting_of (set.Encoding encoding) = request.ToEncoding encoding
+setting_of (set.WithoutEncoding encoding) = request.WithoutEncoding encoding
+setting_of (set.Style style) = request.ToStyle style
+
+-- the text of a reply
+abbrev pub reply_text : Reply → List ℕ
+reply_text (reply.Position row column) = position_text row column
+reply_text (reply.ExtendedPosition row column) = extended_position_text row column
+reply_text reply.PrimaryAttributes = primary_reply
+reply_text reply.SecondaryAttributes = secondary_reply
+reply_text (reply.Mode number state) = mode_report number state
+reply_text (reply.PrivateMode number state) = private_report number state
 
 -- what is asked for, and nothing or something, as a function's answer
 abbrev pub asked_for : Region → Request → request.Request
@@ -103,7 +127,10 @@ asked_for region (asked.Xterm function) = request.Xterm (own_function region fun
 asked_for region (asked.Sets setting function) = request.Sets (setting_of setting) (table_function function)
 asked_for region (asked.SetsAlone setting) = request.SetsAlone (setting_of setting)
 asked_for region (asked.Switches function) = request.Switches (screen_function function)
-asked_for region (asked.Report row column) = request.Replies (position_text row column)
+asked_for region (asked.Repeats count) = request.Repeats count
+asked_for region asked.Aligns = request.Aligns
+asked_for region (asked.Reply reply) = request.Replies (reply_text reply)
+asked_for region asked.Nothing = request.Nothing
 
 abbrev pub maybe_asked : Region → Option Request → Option request.Request
 maybe_asked region found = option_map (asked_for region) found

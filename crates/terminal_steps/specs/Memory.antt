@@ -10,7 +10,8 @@ use Rattle.terminal_table.specs.Functions.{RestoreCursor, ReportStatus, ReportPo
 use Rattle.terminal_table.specs.History.{Event, Act}
 use Rattle.terminal_table.specs.Logged.{event_logged, run_logged}
 use Rattle.terminal_table.specs.Meaning.{View, settled}
-use Rattle.terminal_table.specs.Request.{Request, Table, Xterm, Sets, SetsAlone, Switches, Replies}
+use Rattle.terminal_table.specs.Request.{Request, Table, Xterm, Sets, SetsAlone, Switches, Repeats, Aligns, Replies}
+use Rattle.terminal_table.specs.Request.{Nothing, Setting, ToStop, ToNoStops}
 use Rattle.terminal_table.specs.Requests.{request_of}
 use Rattle.terminal_table.specs.Screens.{ScreenFunction}
 use Rattle.terminal_table.specs.Screens as screens
@@ -55,19 +56,38 @@ TakesTableMemory None number = ⊥
 TakesTableMemory (Some function) number =
     ((copies function ≡ true) × (number + 1 < 2 ^ 64)) ⊎ ((keeps function ≡ true) × (number < 2 ^ 64))
 
--- a function of the two screens copies a cursor or rows: where it adds changes, if the number after the current one fits
+-- a function of the two screens adds a change in any case
+abbrev pub adds_always : ScreenFunction → Bool
+adds_always screens.SaveCursor = false
+adds_always screens.PushTitle = false
+adds_always screens.PopTitle = false
+adds_always _ = true
+
+-- it copies a cursor, rows or a title: where it adds changes in any case, if the number after the current one fits
 abbrev pub TakesScreenMemory : ScreenFunction → ℕ → Type 0
 TakesScreenMemory screens.SaveCursor number = number < 2 ^ 64
+TakesScreenMemory screens.PushTitle number = number < 2 ^ 64
+TakesScreenMemory screens.PopTitle number = number < 2 ^ 64
 TakesScreenMemory function number = number + 1 < 2 ^ 64
+
+-- a setting keeps tab stops
+abbrev pub TakesSettingMemory : Setting → ℕ → Type 0
+TakesSettingMemory (ToStop column stop) number = number < 2 ^ 64
+TakesSettingMemory (ToNoStops width) number = number < 2 ^ 64
+TakesSettingMemory _ number = ⊥
 
 abbrev pub TakesOwnMemory : Option Request → ℕ → Type 0
 TakesOwnMemory None number = ⊥
 TakesOwnMemory (Some (Table function)) number = TakesTableMemory (Some function) number
 TakesOwnMemory (Some (Xterm function)) number = number + 1 < 2 ^ 64
-TakesOwnMemory (Some (Sets setting function)) number = TakesTableMemory (Some function) number
-TakesOwnMemory (Some (SetsAlone setting)) number = ⊥
+TakesOwnMemory (Some (Sets setting function)) number =
+    TakesTableMemory (Some function) number ⊎ TakesSettingMemory setting number
+TakesOwnMemory (Some (SetsAlone setting)) number = TakesSettingMemory setting number
 TakesOwnMemory (Some (Switches function)) number = TakesScreenMemory function number
+TakesOwnMemory (Some (Repeats count)) number = number + 1 < 2 ^ 64
+TakesOwnMemory (Some Aligns) number = number + 1 < 2 ^ 64
 TakesOwnMemory (Some (Replies text)) number = number < 2 ^ 64
+TakesOwnMemory (Some Nothing) number = ⊥
 
 -- what an action asks for in a state
 abbrev pub asked_in : State → StreamAction → Option Request

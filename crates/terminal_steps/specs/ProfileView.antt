@@ -1,5 +1,6 @@
 -- The modes of a terminal: those of a profile at first, and those that a terminal keeps.
-use Rattle.std.specs.Prelude.{⊤, All, Option, Some, None, option_map}
+use Rattle.std.specs.Prelude.{⊤, All, Option, Some, None, map, option_map}
+use Rattle.std.specs.String.{string_bytes}
 use Rattle.cell_base.specs.WholeRow.{IsWhole}
 use Rattle.screen_difference.specs.FreshCells.{rows_of}
 use Rattle.terminal_steps.specs.declared.charsets.Charset as set
@@ -47,10 +48,15 @@ modes_in modes = record {
   origin = modes.origin;
   insert = modes.insert;
   autowrap = modes.autowrap;
+  newline = modes.newline;
+  stops = modes.stops.items;
   charsets = charsets_in modes.charsets;
+  last = string_bytes modes.last;
   alternate = modes.alternate;
   with_cursor = saved_modes_in modes.with_cursor;
   other = other_in modes.other;
+  titles = map string_bytes modes.titles.items;
+  flags = modes.flags;
 }
 
 abbrev pub kept_modes : Option code.Modes → Option Modes

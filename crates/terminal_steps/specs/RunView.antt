@@ -10,8 +10,8 @@ use Rattle.terminal_table.specs.Modes.{Modes, region_on}
 use Rattle.terminal_table.specs.RunTurns.{IsRunning}
 use Rattle.terminal_table.specs.Runs.{Running, run_changes, run_done, screen_alone}
 use Rattle.terminal_table.specs.State.{IsState}
-use Rattle.terminal_table.specs.Turns.{IsRunText}
-use Rattle.terminal_table.specs.XtermRequests.{scrolls_plainly}
+use Rattle.terminal_table.specs.RunText.{IsRunText}
+use Rattle.terminal_table.specs.Feeds.{scrolls_plainly}
 use Rattle.terminal_steps.specs.declared.runs.Frame.{Frame}
 use Rattle.terminal_steps.specs.declared.runs.Run.{Run}
 use Rattle.xterm_steps.specs.Additions.{AddsAll, AddsWith}
@@ -67,5 +67,5 @@ abbrev pub PutsRun : {W : Type 0} → (W → List ℕ → ℕ) → Modes → Sur
     → Type 0
 PutsRun width_of modes before text result after =
     CanBePut width_of before text
-    → AddsWith true width_of before (run_changes (Some modes) (width_of before.grid.widths) (shown_by before).screen text)
-    result after
+    → AddsWith true width_of before
+    (run_changes (Some modes) (width_of before.grid.widths) (shown_by before).screen text) result after

@@ -3,6 +3,7 @@ use Rattle.std.specs.Prelude.{◌≡◌, ⊤, ℕ, List, Option, Result, IfOk}
 use Rattle.cell_surface.specs.Surface.{Surface, shown_by}
 use Rattle.cell_surface.specs.declared.error.SurfaceError.{SurfaceError}
 use Rattle.terminal_table.specs.Modes.{Modes, SavedCursor, other_screen}
+use Rattle.terminal_table.specs.RunText.{IsRunText}
 use Rattle.terminal_table.specs.Screens.{ScreenFunction, Screens, screens_after, screens_changes}
 use Rattle.xterm_steps.specs.Additions.{CopiesAndAdds}
 use Rattle.xterm_table.specs.Follows.{Follows}
@@ -11,11 +12,12 @@ use Rattle.xterm_table.specs.Follows.{Follows}
 abbrev pub screens_on : {W : Type 0} → Surface W → Option SavedCursor → Modes → Screens
 screens_on surface saved modes = record { screen = (shown_by surface).screen; saved = saved; modes = modes }
 
--- the other screen is one that the screen can become
+-- the other screen is one that the screen can become; and the run before is a text
 abbrev pub CanSwitch : {W : Type 0} → (W → List ℕ → ℕ) → Surface W → Modes → Type 0
 CanSwitch width_of surface modes =
     Follows (width_of surface.grid.widths) (shown_by surface).screen
     (other_screen (shown_by surface).screen modes.other.rows)
+    × IsRunText modes.last
 
 -- a function was done from some screens; or it is refused as the surface refuses, or for want of memory for a copy
 pub record Switches {W : Type 0}

@@ -1,21 +1,21 @@
 //! What a terminal does with an action, and with a run of printed characters.
 ghost use Rattle.std.specs.Prelude.{◌≡◌, ◌⊎◌, ◌+◌, ◌-◌, ◌^◌, ◌<◌, ◌≤◌, ◌↔◌, true, IfOk, OnOk, IsErr, IsErrOf};
-ghost use Rattle.std.specs.Prelude.{[], ◌∷◌, ◌||◌, None, Option, Some, false, length};
+ghost use Rattle.std.specs.Prelude.{[], ◌∷◌, ◌||◌, None, Option, Some, false, length, ℕ};
 ghost use Rattle.std.specs.String.{string_bytes};
 ghost use Rattle.cell_base.specs.Screen.{height};
 ghost use Rattle.cell_surface.specs.Surface.{number_of, shown_by};
 ghost use Rattle.escape_stream.specs.StreamActionView.{value_of};
 ghost use Rattle.terminal_table.specs.Changes.{changes, changes_of, run_change, visibility};
 ghost use Rattle.terminal_table.specs.Functions.{function_of};
-ghost use Rattle.terminal_table.specs.Modes.{Modes as TableModes};
+ghost use Rattle.terminal_table.specs.Modes.{Modes as TableModes, reset_modes};
 ghost use Rattle.terminal_table.specs.Request.{modes_set};
 ghost use Rattle.terminal_table.specs.Steps.{reply_step, saved_step, step_of};
 ghost use Rattle.xterm_steps.specs.Additions.{AddsAll, AddsWith, IsChangeRefused};
-ghost use Rattle.terminal_steps.specs.CarriesOut.{Applies, CarriesOut};
+ghost use Rattle.terminal_steps.specs.CarriesOut.{Applies, CarriesOut, CarriesOutAction};
 ghost use Rattle.terminal_steps.specs.TerminalStates.{state_of};
 ghost use Rattle.terminal_steps.specs.FunctionView.{asked_for, setting_of, table_function};
 ghost use Rattle.terminal_steps.specs.ProfileView.{kept_modes, modes_in};
-ghost use Rattle.terminal_steps.specs.Memory.{TakesTableMemory, copies, keeps};
+ghost use Rattle.terminal_steps.specs.Memory.{TakesSettingMemory, TakesTableMemory, copies, keeps};
 
 use crate::changes::{add, add_attribute, add_nothing, add_run, add_text};
 use crate::control_functions::control_function_of;
@@ -24,19 +24,23 @@ use crate::erase::{
     erase_display, erase_line, erase_to_end_of_display, erase_to_end_of_line, reverse_index,
     scroll_down, scroll_up,
 };
+use crate::flags::{end_encoding, set_flag};
 use crate::function::ControlFunction;
 use crate::pen::render;
 use crate::profile::{Modes, Region, initial_modes, region_on};
-use crate::replies::{report, report_position, report_status};
+use crate::replies::{report_position, report_status, send};
 use crate::requests::{Request, Setting, xterm_request};
+use crate::runs::{forget_last, repeat_last};
 use crate::saved::{SavedCursor, full_reset, restore_cursor, save_cursor};
-use crate::screens::switch_screens;
+use crate::screens::{align, switch_screens};
+use crate::tab_stops::{clear_stops, set_stop};
 use crate::xterm::perform_xterm;
 use cell_base::{AttributeChange, CursorVisibility, Widths};
 use cell_surface::{Surface, SurfaceError};
 use escape_stream::Action;
 use screen_change::Change;
-use std::alloc::Global;
+use std::alloc::{AllocError, Global};
+use std::mem;
 
 // Whether the cursor is shown, as a change.
 fn visibility(shown: bool) -> CursorVisibility
@@ -185,20 +189,39 @@ fn apply_table<W: Widths + Drop>(
     }
 }
 
+// The modes become those of a new terminal, but for the titles.
+fn reset_modes(alloc: Global, modes: &mut Modes)
+    ensures { modes_in modes.new ≡ reset_modes (modes_in modes.old) }
+{
+    let titles = mem::replace(&mut modes.titles, Vec::new(alloc));
+    *modes = initial_modes(alloc);
+    modes.titles = titles;
+}
+
 // The modes become others.
-fn set_modes(alloc: Global, modes: &mut Modes, setting: Setting)
-    ensures { modes_in modes.new ≡ modes_set (setting_of setting) (modes_in modes.old) }
+fn set_modes(alloc: Global, modes: &mut Modes, setting: Setting) -> Result<(), AllocError>
+    ensures done { OnOk result (modes_in modes.new ≡ modes_set (setting_of setting) (modes_in modes.old)) }
+    ensures refused { IsErr result → (number : ℕ) → number < 2 ^ 64 → TakesSettingMemory (setting_of setting) number }
 {
     match setting {
-        Setting::Initial => *modes = initial_modes(alloc),
+        Setting::Reset => reset_modes(alloc, modes),
         Setting::Region(top, bottom) => modes.region = Some(Region { top, bottom }),
         Setting::Origin(origin) => modes.origin = origin,
         Setting::Insert(insert) => modes.insert = insert,
         Setting::Autowrap(autowrap) => modes.autowrap = autowrap,
+        Setting::Newline(newline) => modes.newline = newline,
+        Setting::Stop(column, stop) => return set_stop(&mut modes.stops, column, stop),
+        Setting::NoStops(width) => return clear_stops(&mut modes.stops, width),
         Setting::First(charset) => modes.charsets.g0 = charset,
         Setting::Second(charset) => modes.charsets.g1 = charset,
         Setting::Shift(shifted) => modes.charsets.shifted = shifted,
+        Setting::Flag(flag, on) => set_flag(&mut modes.flags, flag, on),
+        Setting::Mouse(protocol) => modes.flags.mouse_protocol_mode = protocol,
+        Setting::Encoding(encoding) => modes.flags.mouse_protocol_encoding = encoding,
+        Setting::WithoutEncoding(encoding) => end_encoding(&mut modes.flags, encoding),
+        Setting::Style(style) => modes.flags.cursor_style = style,
     }
+    Ok(())
 }
 
 // Does what xterm itself has for an action.
@@ -223,23 +246,46 @@ fn carry_out_request<W: Widths + Drop>(
         Request::Xterm(function) => perform_xterm(alloc, surface, region, function),
         Request::Sets(setting, function) => {
             carry_out(surface, saved, replies, function)?;
-            set_modes(alloc, modes, setting);
+            set_modes(alloc, modes, setting)?;
             Ok(())
         }
         Request::SetsAlone(setting) => {
-            set_modes(alloc, modes, setting);
+            set_modes(alloc, modes, setting)?;
             Ok(())
         }
         Request::Switches(function) => switch_screens(alloc, surface, saved, modes, function),
-        Request::Report(row, column) => {
-            report(row, column, replies)?;
+        Request::Repeats(count) => repeat_last(alloc, surface, modes, count),
+        Request::Aligns => align(alloc, surface, modes),
+        Request::Reply(reply) => {
+            send(reply, replies)?;
             Ok(())
         }
+        Request::Nothing => Ok(()),
     }
 }
 
-// Does what the profile xterm has for an action, on a surface that hasn't failed; apart from the walk, which a plain
-// terminal shares.
+// Does what the profile xterm has for an action, on a surface that hasn't failed. The run before stays.
+fn carry_out_action<W: Widths + Drop>(
+    surface: &mut Surface<W>,
+    saved: &mut Option<SavedCursor>,
+    replies: &mut Vec<u8>,
+    modes: &mut Modes,
+    action: Action,
+) -> Result<(), SurfaceError>
+    requires stays { surface.old.is_failed ≡ false }
+    ensures { CarriesOutAction (λ w. W.width_of w)
+        (state_of surface.old saved.old replies.old.items (Some (modes_in modes.old))) (value_of action) surface.old
+        result surface.new saved.new replies.new.items (Some (modes_in modes.new)) }
+{
+    let region = region_on(modes, surface);
+    match xterm_request(modes, region, surface, &action) {
+        None => apply_table(surface, saved, replies, action),
+        Some(request) => carry_out_request(surface, saved, replies, modes, region, request),
+    }
+}
+
+// Does what the profile xterm has for an action, on a surface that hasn't failed, and forgets the run before; apart
+// from the walk, which a plain terminal shares.
 #[inline(never)]
 fn apply_xterm<W: Widths + Drop>(
     surface: &mut Surface<W>,
@@ -253,11 +299,10 @@ fn apply_xterm<W: Widths + Drop>(
         (state_of surface.old saved.old replies.old.items (Some (modes_in modes.old))) (value_of action) surface.old
         result surface.new saved.new replies.new.items (Some (modes_in modes.new)) }
 {
-    let region = region_on(modes, surface);
-    match xterm_request(modes, region, surface, &action) {
-        None => apply_table(surface, saved, replies, action),
-        Some(request) => carry_out_request(surface, saved, replies, modes, region, request),
-    }
+    let alloc = *replies.allocator();
+    let result = carry_out_action(surface, saved, replies, modes, action);
+    forget_last(alloc, &mut modes.last);
+    result
 }
 
 /// Does what the terminal's profile has for an action: its changes are added to the surface, the cursor is
@@ -289,8 +334,8 @@ pub(crate) fn apply<W: Widths + Drop>(
     }
 }
 
-/// A run of printed characters on a plain terminal: one change, which puts each of their clusters at the cursor. Refuses
-/// as the surface does.
+/// A run of printed characters on a plain terminal: one change, which puts each of their clusters at the cursor.
+/// Refuses as the surface does.
 pub(crate) fn print<W: Widths + Drop>(
     surface: &mut Surface<W>,
     text: String,

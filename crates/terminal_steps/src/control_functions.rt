@@ -62,7 +62,7 @@ fn of_cursor(cursor: Cursor) -> Option<ControlFunction>
         Cursor::NextLine(n) => Move::NextLine(n),
         Cursor::PrecedingLine(n) => Move::PrecedingLine(n),
         Cursor::CharacterAbsolute(column) | Cursor::CharacterPositionAbsolute(column) => {
-            Move::ToColumn(column.as_one_based())
+            Move::ToColumn(column.as_one_based() as usize)
         }
         Cursor::LinePositionAbsolute(line) => Move::ToLine(line as usize),
         Cursor::Position { line, col } | Cursor::CharacterAndLinePosition { line, col } => {

@@ -57,7 +57,7 @@ fn position_of(
         Move::NextTab => ((column / 8 + 1).saturating_mul(8), row),
         Move::NextLine(n) => (0, row.saturating_add(n as usize)),
         Move::PrecedingLine(n) => (0, row.saturating_sub(n as usize)),
-        Move::ToColumn(name) => ((name as usize).saturating_sub(1), row),
+        Move::ToColumn(name) => (name.saturating_sub(1), row),
         Move::ToLine(name) => (column, name.saturating_sub(1)),
         Move::ToPosition(line, name) => ((name as usize).saturating_sub(1), line.saturating_sub(1)),
     };

@@ -25,7 +25,7 @@ pub(crate) enum Move {
     /// CPL (CSI F): moves the cursor to the first column of the row that is this many rows above.
     PrecedingLine(u32),
     /// CHA (CSI G), HPA (CSI and a backquote): moves the cursor to a column.
-    ToColumn(u32),
+    ToColumn(usize),
     /// VPA (CSI d): moves the cursor to a line.
     ToLine(usize),
     /// CUP (CSI H), HVP (CSI f): moves the cursor to a line and a column.

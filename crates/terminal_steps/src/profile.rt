@@ -11,6 +11,7 @@ ghost use Rattle.terminal_table.specs.Modes.{initial_modes, region_on, resized_m
 ghost use Rattle.terminal_steps.specs.ProfileView.{HaveWholeRows, kept_modes, modes_in, modes_of, saved_modes_in};
 
 use crate::charsets::{Charsets, initial_charsets};
+use crate::flags::initial_flags;
 use crate::saved::SavedCursor;
 use cell_base::{SEQ_ZERO, Widths};
 use cell_line::Line;
@@ -18,17 +19,19 @@ use cell_line::row_writing::with_width_clustered;
 use cell_surface::Surface;
 use std::alloc::{AllocError, Global};
 use std::marker::Model;
+use terminal_table::flags::Flags;
 
 /// Which control functions a terminal has, and what they do.
 #[derive(Clone, Copy, Debug, PartialEq, Eq)]
 pub enum Profile {
     /// The functions of the terminal's table. A program must run under the project's own terminal description.
     Plain,
-    /// The functions of xterm, for programs that run under `xterm-256color`. It is being built up: it has the functions
-    /// of the table; ECH, ICH, DCH, EL 1, ED 1, IL and DL; margins (DECSTBM), at which LF, IND, NEL, RI, SU, SD and the
-    /// moves of the cursor by rows stop or scroll, and so do runs of text; DECOM; insertion (IRM) and autowrap (DECAWM);
-    /// character sets (G0 and G1, SO and SI); the alternate screen (DEC modes 47, 1047 and 1049); and a saved cursor for
-    /// each screen (also mode 1048).
+    /// The functions of xterm, for programs that run under `xterm-256color`: those of the table; ECH, ICH, DCH, EL 1,
+    /// ED 1, IL, DL and REP; margins (DECSTBM), at which LF, IND, NEL, RI, SU, SD and the moves of the cursor by rows
+    /// stop or scroll, and so do runs of text; DECOM; insertion (IRM), autowrap (DECAWM) and new lines by LF (LNM); tab
+    /// stops (HTS, TBC, CHT, CBT); character sets (G0 and G1, SO and SI); the alternate screen (DEC modes 47, 1047 and
+    /// 1049); a saved cursor for each screen (also mode 1048); DECALN and DECSTR; titles that are pushed; device
+    /// attributes and reports of modes; and the modes that are kept for the program around the terminal.
     Xterm,
 }
 
@@ -82,16 +85,25 @@ pub struct Modes {
     pub(crate) insert: bool,
     /// Whether a character past the last column goes to the next row (DECAWM).
     pub(crate) autowrap: bool,
+    /// Whether LF goes to the first column, too (LNM).
+    pub(crate) newline: bool,
+    /// Of each of the first columns, whether it is a tab stop; of the others each that 8 divides is one.
+    pub(crate) stops: Vec<bool>,
     pub(crate) charsets: Charsets,
+    /// The run before, as it was put; empty behind any other action.
+    pub(crate) last: String,
     /// Whether the alternate screen is shown.
     pub(crate) alternate: bool,
     /// What was saved with the cursor that was saved on the screen shown.
     pub(crate) with_cursor: SavedModes,
     pub(crate) other: OtherScreen,
+    /// Titles that were pushed, the last one first.
+    pub(crate) titles: Vec<String>,
+    pub(crate) flags: Flags,
 }
 
-// Where nothing was saved.
-fn unsaved_modes() -> SavedModes
+/// Where nothing was saved.
+pub(crate) fn unsaved_modes() -> SavedModes
     ensures { saved_modes_in result ≡ unsaved_modes }
 {
     SavedModes {
@@ -110,7 +122,10 @@ pub(crate) fn initial_modes(alloc: Global) -> Modes
         origin: false,
         insert: false,
         autowrap: true,
+        newline: false,
+        stops: Vec::new(alloc),
         charsets: initial_charsets(),
+        last: String::new(alloc),
         alternate: false,
         with_cursor: unsaved_modes(),
         other: OtherScreen {
@@ -118,6 +133,8 @@ pub(crate) fn initial_modes(alloc: Global) -> Modes
             cursor: None,
             with_cursor: unsaved_modes(),
         },
+        titles: Vec::new(alloc),
+        flags: initial_flags(),
     }
 }
 
@@ -183,8 +200,8 @@ fn resize_lines(
     Ok(())
 }
 
-/// The modes, if there are any, of a screen that has got another size: all its rows scroll. A refusal may leave the
-/// other screen with fewer rows.
+/// The modes, if there are any, of a screen that has got another size: all its rows scroll, and new columns have the
+/// tab stops of a new one. A refusal may leave the other screen with fewer rows.
 pub(crate) fn resize_modes(
     alloc: Global,
     modes: &mut Option<Modes>,
@@ -199,6 +216,7 @@ pub(crate) fn resize_modes(
         None => Ok(()),
         Some(modes) => {
             modes.region = None;
+            modes.stops.truncate(width);
             resize_lines(alloc, &mut modes.other.lines, width, height)
         }
     }

@@ -4,41 +4,68 @@ ghost use Rattle.cell_base.specs.Screen.{height};
 ghost use Rattle.cell_surface.specs.Surface.{shown_by};
 ghost use Rattle.escape_stream.specs.Controls.{control_number};
 ghost use Rattle.escape_stream.specs.StreamActionView.{value_of};
-ghost use Rattle.terminal_steps.specs.FunctionView.{asked_for, maybe_asked, screen_function, table_function};
+ghost use Rattle.terminal_steps.specs.FunctionView.{asked_for, maybe_asked};
 ghost use Rattle.terminal_steps.specs.ProfileView.{modes_in};
-ghost use Rattle.terminal_table.specs.Modes.{region_on};
+ghost use Rattle.terminal_table.specs.Feeds.{
+  feeds_plainly,
+  is_default,
+  line_feed_request,
+  next_line_request,
+  scrolls_plainly,
+};
+ghost use Rattle.terminal_table.specs.Modes.{Region as TableRegion, region_on};
 ghost use Rattle.terminal_table.specs.Screens.{is_pending};
-ghost use Rattle.terminal_table.specs.XtermRequests.{alternate_function, control_request, cursor_request};
-ghost use Rattle.terminal_table.specs.XtermRequests.{designation_request, edit_request};
-ghost use Rattle.terminal_table.specs.XtermRequests.{escape_request, feeds_plainly, home_function, is_default};
-ghost use Rattle.terminal_table.specs.XtermRequests.{line_feed_request, line_request, line_within, margins_request};
-ghost use Rattle.terminal_table.specs.XtermRequests.{mode_request, next_line_request, normal_function, origin_request};
-ghost use Rattle.terminal_table.specs.XtermRequests.{other_designation};
-ghost use Rattle.terminal_table.specs.XtermRequests.{position_request, report_request, reset_request};
-ghost use Rattle.terminal_table.specs.XtermRequests.{reverse_index_request, rows_above, rows_below, rows_request};
-ghost use Rattle.terminal_table.specs.XtermRequests.{scroll_down_request, scroll_up_request, scrolls_plainly};
-ghost use Rattle.terminal_table.specs.XtermRequests.{set_request, where_between, where_origin, where_shown};
-ghost use Rattle.terminal_table.specs.XtermRequests.{xterm_request};
+ghost use Rattle.terminal_table.specs.XtermRequests.{
+  clear_request,
+  control_request,
+  cursor_request,
+  designation_request,
+  edit_request,
+  escape_request,
+  line_request,
+  line_within,
+  lock_request,
+  margins_request,
+  other_escape,
+  position_request,
+  repeat_request,
+  report_request,
+  reverse_index_request,
+  rows_above,
+  rows_below,
+  rows_request,
+  scroll_down_request,
+  scroll_up_request,
+  tab_back_request,
+  tab_request,
+  where_between,
+  where_origin,
+  xterm_request,
+};
 
 use crate::charsets::Charset;
 use crate::cursor_moves::current_column;
 use crate::function::{ControlFunction, Move};
+use crate::mode_requests::{home, of_mode};
+use crate::other_requests::{of_device, of_other};
 use crate::profile::{Modes, Region};
+use crate::replies::Reply;
 use crate::screens::ScreenFunction;
+use crate::tab_stops::{stops_back, stops_on};
 use crate::xterm::XtermFunction;
 use cell_base::{ColorAttribute, Widths};
 use cell_surface::Surface;
 use csi_codec::{
-    CSI, Cursor, DecPrivateMode, DecPrivateModeCode, Edit, EraseInDisplay, EraseInLine, Esc,
-    EscCode, Mode, TerminalMode, TerminalModeCode,
+    CSI, Cursor, CursorStyle, Edit, EraseInDisplay, EraseInLine, Esc, EscCode, TabulationClear,
 };
 use escape_stream::{Action, ControlCode};
+use terminal_table::flags::{Flag, MouseProtocolEncoding, MouseProtocolMode};
 
 /// How the modes become others.
 #[derive(Clone, Copy)]
 pub(crate) enum Setting {
-    /// As those of a new terminal.
-    Initial,
+    /// As those of a new terminal, but for the titles.
+    Reset,
     /// With a region from one row to another, counted from 0.
     Region(usize, usize),
     /// With lines that count from the region's top, or from the screen's.
@@ -47,12 +74,28 @@ pub(crate) enum Setting {
     Insert(bool),
     /// With autowrap (DECAWM), or without.
     Autowrap(bool),
+    /// With new lines by LF (LNM), or without.
+    Newline(bool),
+    /// With a tab stop at a column, or without.
+    Stop(usize, bool),
+    /// Without the tab stops of so many columns.
+    NoStops(usize),
     /// With another set as G0.
     First(Charset),
     /// With another set as G1.
     Second(Charset),
     /// With G1 in use, or G0.
     Shift(bool),
+    /// With a flag, or without.
+    Flag(Flag, bool),
+    /// With another protocol of the mouse.
+    Mouse(MouseProtocolMode),
+    /// With an encoding of the mouse.
+    Encoding(MouseProtocolEncoding),
+    /// Without an encoding of the mouse.
+    WithoutEncoding(MouseProtocolEncoding),
+    /// With another style of the cursor.
+    Style(CursorStyle),
 }
 
 /// What a terminal of the profile xterm is asked for.
@@ -68,8 +111,14 @@ pub(crate) enum Request {
     SetsAlone(Setting),
     /// A function of the two screens.
     Switches(ScreenFunction),
-    /// CPR (CSI R): the row and the column, counted from 0.
-    Report(usize, usize),
+    /// REP (CSI b): the last cluster of the run before is put so many times more.
+    Repeats(usize),
+    /// DECALN (ESC # 8).
+    Aligns,
+    /// A reply.
+    Reply(Reply),
+    /// Nothing, where the table has something.
+    Nothing,
 }
 
 // Whether a colour is the default.
@@ -151,6 +200,54 @@ fn reverse_index<W: Widths + Drop>(region: Region, surface: &Surface<W>) -> Requ
         Request::Table(ControlFunction::ReverseIndex)
     } else {
         Request::Xterm(XtermFunction::ReverseIndex)
+    }
+}
+
+// HT and CHT: nothing, where a wrap is pending.
+fn tab<W: Widths + Drop>(modes: &Modes, surface: &Surface<W>, count: u32) -> Request
+    requires { surface.now.is_failed ≡ false }
+    ensures { (region : TableRegion) → asked_for region result
+        ≡ tab_request (modes_in modes.now) (shown_by surface.now).screen count }
+{
+    let (width, _) = surface.dimensions();
+    let (column, _) = surface.cursor_position();
+    if column == width {
+        return Request::Nothing;
+    }
+    let column = stops_on(&modes.stops, width, column, count);
+    Request::Table(ControlFunction::Moves(Move::ToColumn(column + 1)))
+}
+
+// CBT.
+fn tab_back<W: Widths + Drop>(modes: &Modes, surface: &Surface<W>, count: u32) -> Request
+    requires { surface.now.is_failed ≡ false }
+    ensures { (region : TableRegion) → asked_for region result
+        ≡ tab_back_request (modes_in modes.now) (shown_by surface.now).screen count }
+{
+    let (_width, _) = surface.dimensions();
+    let column = stops_back(&modes.stops, current_column(surface), count);
+    Request::Table(ControlFunction::Moves(Move::ToColumn(column + 1)))
+}
+
+// TBC.
+fn clear<W: Widths + Drop>(
+    region: Region,
+    surface: &Surface<W>,
+    which: TabulationClear,
+) -> Option<Request>
+    requires { surface.now.is_failed ≡ false }
+    ensures { maybe_asked region result ≡ clear_request (shown_by surface.now).screen which }
+{
+    match which {
+        TabulationClear::ClearCharacterTabStopAtActivePosition => {
+            let setting = Setting::Stop(current_column(surface), false);
+            Some(Request::SetsAlone(setting))
+        }
+        TabulationClear::ClearAllCharacterTabStops => {
+            let (width, _) = surface.dimensions();
+            Some(Request::SetsAlone(Setting::NoStops(width)))
+        }
+        _ => None,
     }
 }
 
@@ -295,29 +392,8 @@ fn report<W: Widths + Drop>(modes: &Modes, region: Region, surface: &Surface<W>)
     where_origin(
         modes,
         region,
-        Request::Report(row.saturating_sub(region.top), column),
+        Request::Reply(Reply::Position(row.saturating_sub(region.top), column)),
     )
-}
-
-// The cursor at home: in the row `top` where lines count from it, else in the screen's first row.
-fn home(origin: bool, top: usize) -> ControlFunction
-    requires { top + 1 < 2 ^ 64 }
-    ensures { (bottom : ℕ) → table_function result
-        ≡ home_function origin (record { top = top; bottom = bottom }) }
-{
-    let line = if origin { top + 1 } else { 1 };
-    ControlFunction::Moves(Move::ToPosition(line, 1))
-}
-
-// DECSET 6 and DECRST 6.
-fn set_origin<W: Widths + Drop>(region: Region, surface: &Surface<W>, origin: bool) -> Request
-    requires stays { surface.now.is_failed ≡ false }
-    requires order { region.top ≤ region.bottom }
-    requires within { region.bottom < height (shown_by surface.now).screen }
-    ensures { asked_for region result ≡ origin_request origin region }
-{
-    let (_, _height) = surface.dimensions();
-    Request::Sets(Setting::Origin(origin), home(origin, region.top))
 }
 
 // DECSTBM, with lines counted from 1.
@@ -344,133 +420,25 @@ fn margins<W: Widths + Drop>(
     }
 }
 
-// What is asked of the two screens, if anything is.
-fn where_shown(region: Region, shown: bool, function: ScreenFunction) -> Option<Request>
-    ensures { maybe_asked region result ≡ where_shown shown (screen_function function) }
-{
-    if shown {
-        Some(Request::Switches(function))
-    } else {
-        None
-    }
-}
-
-// DECSET 1049.
-fn alternate_function(alternate: bool) -> ScreenFunction
-    ensures { screen_function result ≡ alternate_function alternate }
-{
-    if alternate {
-        ScreenFunction::SaveAndClear
-    } else {
-        ScreenFunction::SaveAndShowCleared
-    }
-}
-
-// DECRST 1049.
-fn normal_function(alternate: bool) -> ScreenFunction
-    ensures { screen_function result ≡ normal_function alternate }
-{
-    if alternate {
-        ScreenFunction::ShowAndRestore
-    } else {
-        ScreenFunction::RestoreCursor
-    }
-}
-
-// Of a mode that is set.
-fn of_set<W: Widths + Drop>(
-    modes: &Modes,
-    region: Region,
-    surface: &Surface<W>,
-    code: DecPrivateModeCode,
-) -> Option<Request>
-    requires stays { surface.now.is_failed ≡ false }
-    requires order { region.top ≤ region.bottom }
-    requires within { region.bottom < height (shown_by surface.now).screen }
-    ensures { maybe_asked region result ≡ set_request (modes_in modes.now) region code }
-{
-    match code {
-        DecPrivateModeCode::OriginMode => Some(set_origin(region, surface, true)),
-        DecPrivateModeCode::AutoWrap => Some(Request::SetsAlone(Setting::Autowrap(true))),
-        DecPrivateModeCode::EnableAlternateScreen | DecPrivateModeCode::OptEnableAlternateScreen =>
-            { where_shown(region, !modes.alternate, ScreenFunction::ShowOther) }
-        DecPrivateModeCode::SaveCursor => Some(Request::Switches(ScreenFunction::SaveCursor)),
-        DecPrivateModeCode::ClearAndEnableAlternateScreen => {
-            Some(Request::Switches(alternate_function(modes.alternate)))
-        }
-        _ => None,
-    }
-}
-
-// Of a mode that is reset.
-fn of_reset<W: Widths + Drop>(
-    modes: &Modes,
-    region: Region,
-    surface: &Surface<W>,
-    code: DecPrivateModeCode,
-) -> Option<Request>
-    requires stays { surface.now.is_failed ≡ false }
-    requires order { region.top ≤ region.bottom }
-    requires within { region.bottom < height (shown_by surface.now).screen }
-    ensures { maybe_asked region result ≡ reset_request (modes_in modes.now) region code }
-{
-    match code {
-        DecPrivateModeCode::OriginMode => Some(set_origin(region, surface, false)),
-        DecPrivateModeCode::AutoWrap => Some(Request::SetsAlone(Setting::Autowrap(false))),
-        DecPrivateModeCode::EnableAlternateScreen => {
-            where_shown(region, modes.alternate, ScreenFunction::ShowOther)
-        }
-        DecPrivateModeCode::OptEnableAlternateScreen => {
-            where_shown(region, modes.alternate, ScreenFunction::ClearAndShowOther)
-        }
-        DecPrivateModeCode::SaveCursor => Some(Request::Switches(ScreenFunction::RestoreCursor)),
-        DecPrivateModeCode::ClearAndEnableAlternateScreen => {
-            Some(Request::Switches(normal_function(modes.alternate)))
-        }
-        _ => None,
-    }
-}
-
-// Of a mode: DECOM, DECAWM and IRM, and what switches screens.
-fn of_mode<W: Widths + Drop>(
-    modes: &Modes,
-    region: Region,
-    surface: &Surface<W>,
-    mode: Mode,
-) -> Option<Request>
-    requires stays { surface.now.is_failed ≡ false }
-    requires order { region.top ≤ region.bottom }
-    requires within { region.bottom < height (shown_by surface.now).screen }
-    ensures { maybe_asked region result ≡ mode_request (modes_in modes.now) region mode }
-{
-    match mode {
-        Mode::SetDecPrivateMode(DecPrivateMode::Code(code)) => of_set(modes, region, surface, code),
-        Mode::ResetDecPrivateMode(DecPrivateMode::Code(code)) => {
-            of_reset(modes, region, surface, code)
-        }
-        Mode::SetMode(TerminalMode::Code(TerminalModeCode::Insert)) => {
-            Some(Request::SetsAlone(Setting::Insert(true)))
-        }
-        Mode::ResetMode(TerminalMode::Code(TerminalModeCode::Insert)) => {
-            Some(Request::SetsAlone(Setting::Insert(false)))
-        }
-        _ => None,
-    }
-}
-
-// Of a control character: LF, VT, FF, SO and SI.
+// Of a control character: HT, LF, VT, FF, SO and SI.
 fn of_control<W: Widths + Drop>(
+    modes: &Modes,
     region: Region,
     surface: &Surface<W>,
     code: ControlCode,
 ) -> Option<Request>
     requires { surface.now.is_failed ≡ false }
     ensures { maybe_asked region result
-        ≡ control_request region (shown_by surface.now).screen (control_number code) }
+        ≡ control_request (modes_in modes.now) region (shown_by surface.now).screen (control_number code) }
 {
     match code {
+        ControlCode::HorizontalTab => Some(tab(modes, surface, 1)),
         ControlCode::LineFeed | ControlCode::VerticalTab | ControlCode::FormFeed => {
-            Some(line_feed(region, surface))
+            if modes.newline {
+                Some(next_line(region, surface))
+            } else {
+                Some(line_feed(region, surface))
+            }
         }
         ControlCode::ShiftOut => Some(Request::SetsAlone(Setting::Shift(true))),
         ControlCode::ShiftIn => Some(Request::SetsAlone(Setting::Shift(false))),
@@ -494,18 +462,39 @@ fn of_designation(region: Region, code: EscCode) -> Option<Request>
     Some(Request::SetsAlone(setting))
 }
 
-// Of another set, which is taken for ASCII, after ESC ( or ESC ).
-fn of_other_designation(region: Region, intermediate: Option<u8>) -> Option<Request>
-    ensures { maybe_asked region result ≡ other_designation intermediate }
+// Memory lock.
+fn lock<W: Widths + Drop>(region: Region, surface: &Surface<W>, code: u8) -> Option<Request>
+    requires { surface.now.is_failed ≡ false }
+    ensures { maybe_asked region result ≡ lock_request region (shown_by surface.now).screen code }
+{
+    let (_, row) = surface.cursor_position();
+    let top = match code {
+        b'l' if row < region.bottom => row,
+        b'm' => 0,
+        _ => return None,
+    };
+    Some(Request::SetsAlone(Setting::Region(top, region.bottom)))
+}
+
+// Of an ESC pair without a name: memory lock; or another set, which is taken for ASCII, after ESC ( or ESC ).
+fn of_other_escape<W: Widths + Drop>(
+    region: Region,
+    surface: &Surface<W>,
+    intermediate: Option<u8>,
+    code: u8,
+) -> Option<Request>
+    requires { surface.now.is_failed ≡ false }
+    ensures { maybe_asked region result ≡ other_escape region (shown_by surface.now).screen intermediate code }
 {
     match intermediate {
+        None => lock(region, surface, code),
         Some(b'(') => Some(Request::SetsAlone(Setting::First(Charset::Ascii))),
         Some(b')') => Some(Request::SetsAlone(Setting::Second(Charset::Ascii))),
         _ => None,
     }
 }
 
-// Of an ESC pair: IND, NEL, RI, RIS, DECSC, DECRC, and designations.
+// Of an ESC pair: IND, NEL, HTS, RI, RIS, DECSC, DECRC, DECALN, DECKPAM, DECKPNM, DECID, and designations.
 fn of_escape<W: Widths + Drop>(
     region: Region,
     surface: &Surface<W>,
@@ -518,9 +507,21 @@ fn of_escape<W: Widths + Drop>(
         EscCode::Index => Some(line_feed(region, surface)),
         EscCode::NextLine => Some(next_line(region, surface)),
         EscCode::ReverseIndex => Some(reverse_index(region, surface)),
-        EscCode::FullReset => { Some(Request::Sets(Setting::Initial, ControlFunction::FullReset)) }
+        EscCode::HorizontalTabSet => {
+            let setting = Setting::Stop(current_column(surface), true);
+            Some(Request::SetsAlone(setting))
+        }
+        EscCode::FullReset => Some(Request::Sets(Setting::Reset, ControlFunction::FullReset)),
         EscCode::DecSaveCursorPosition => Some(Request::Switches(ScreenFunction::SaveCursor)),
         EscCode::DecRestoreCursorPosition => Some(Request::Switches(ScreenFunction::RestoreCursor)),
+        EscCode::DecScreenAlignmentDisplay => Some(Request::Aligns),
+        EscCode::DecApplicationKeyPad => {
+            Some(Request::SetsAlone(Setting::Flag(Flag::ApplicationKeypad, true)))
+        }
+        EscCode::DecNormalKeyPad => {
+            Some(Request::SetsAlone(Setting::Flag(Flag::ApplicationKeypad, false)))
+        }
+        EscCode::ReturnTerminalId => Some(Request::Reply(Reply::PrimaryAttributes)),
         other => of_designation(region, other),
     }
 }
@@ -533,7 +534,8 @@ fn of_rows<W: Widths + Drop>(
     cursor: Cursor,
 ) -> Option<Request>
     requires { surface.now.is_failed ≡ false }
-    ensures { maybe_asked region result ≡ rows_request (modes_in modes.now) region (shown_by surface.now).screen cursor }
+    ensures { maybe_asked region result
+        ≡ rows_request (modes_in modes.now) region (shown_by surface.now).screen cursor }
 {
     let movement = match cursor {
         Cursor::Up(count) => Move::Up(rows_above(region, surface, count)),
@@ -585,14 +587,41 @@ fn of_cursor<W: Widths + Drop>(
         Cursor::SaveCursor => Some(Request::Switches(ScreenFunction::SaveCursor)),
         Cursor::RestoreCursor => Some(Request::Switches(ScreenFunction::RestoreCursor)),
         Cursor::RequestActivePositionReport => report(modes, region, surface),
+        Cursor::ForwardTabulation(count) => Some(tab(modes, surface, count)),
+        Cursor::BackwardTabulation(count) => Some(tab_back(modes, surface, count)),
+        Cursor::TabulationClear(which) => clear(region, surface, which),
+        Cursor::CursorStyle(style) => Some(Request::SetsAlone(Setting::Style(style))),
         other => of_rows(modes, region, surface, other),
     }
 }
 
-// Of an edit: ECH, ICH, DCH, EL 0 and ED 0 at a pending wrap, EL 1, ED 1, SU, SD, IL and DL.
-fn of_edit<W: Widths + Drop>(region: Region, surface: &Surface<W>, edit: Edit) -> Option<Request>
+// REP: the last cluster of the run before, if there is one, as often as the screen has columns at most.
+fn repeat<W: Widths + Drop>(
+    modes: &Modes,
+    region: Region,
+    surface: &Surface<W>,
+    count: u32,
+) -> Option<Request>
     requires { surface.now.is_failed ≡ false }
-    ensures { maybe_asked region result ≡ edit_request region (shown_by surface.now).screen edit }
+    ensures { maybe_asked region result ≡ repeat_request (modes_in modes.now) (shown_by surface.now).screen count }
+{
+    if modes.last.is_empty() {
+        return None;
+    }
+    let (width, height) = surface.dimensions();
+    Some(Request::Repeats((count as usize).min(width.saturating_mul(height))))
+}
+
+// Of an edit: ECH, ICH, DCH, EL 0 and ED 0 at a pending wrap, EL 1, ED 1, SU, SD, IL, DL and REP.
+fn of_edit<W: Widths + Drop>(
+    modes: &Modes,
+    region: Region,
+    surface: &Surface<W>,
+    edit: Edit,
+) -> Option<Request>
+    requires { surface.now.is_failed ≡ false }
+    ensures { maybe_asked region result
+        ≡ edit_request (modes_in modes.now) region (shown_by surface.now).screen edit }
 {
     let function = match edit {
         Edit::EraseCharacter(count) => XtermFunction::EraseCharacters(count),
@@ -616,6 +645,7 @@ fn of_edit<W: Widths + Drop>(region: Region, surface: &Surface<W>, edit: Edit) -
         Edit::DeleteLine(count) => {
             return where_between(region, surface, XtermFunction::DeleteLines(count));
         }
+        Edit::Repeat(count) => return repeat(modes, region, surface, count),
         _ => return None,
     };
     Some(Request::Xterm(function))
@@ -638,14 +668,19 @@ pub(crate) fn xterm_request<W: Widths + Drop>(
         ≡ xterm_request (modes_in modes.now) (shown_by surface.now).screen (value_of action.now) }
 {
     match action {
-        Action::Control(code) => of_control(region, surface, *code),
+        Action::Control(code) => of_control(modes, region, surface, *code),
         Action::Esc(Esc::Code(code)) => of_escape(region, surface, *code),
-        Action::Esc(Esc::Unspecified { intermediate, .. }) => {
-            of_other_designation(region, *intermediate)
-        }
+        Action::Esc(
+            Esc::Unspecified {
+                intermediate,
+                control,
+            },
+        ) => of_other_escape(region, surface, *intermediate, *control),
         Action::CSI(CSI::Cursor(cursor)) => of_cursor(modes, region, surface, *cursor),
-        Action::CSI(CSI::Edit(edit)) => of_edit(region, surface, *edit),
+        Action::CSI(CSI::Edit(edit)) => of_edit(modes, region, surface, *edit),
         Action::CSI(CSI::Mode(mode)) => of_mode(modes, region, surface, *mode),
+        Action::CSI(CSI::Device(device)) => of_device(region, **device),
+        Action::CSI(CSI::Unspecified(rest)) => of_other(modes, region, surface, rest),
         _ => None,
     }
 }

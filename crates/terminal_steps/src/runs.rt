@@ -1,14 +1,15 @@
 //! Runs of printed characters under xterm, where something may be asked for before a cluster is put.
 ghost use Rattle.std.specs.Prelude.{◌≡◌, ◌≢◌, ◌≤◌, ◌<◌, ◌+◌, ◌++◌, ◌^◌, ℕ, List, [], true, false, nat_le, OnOk};
-ghost use Rattle.std.specs.Prelude.{IsErrOf};
+ghost use Rattle.std.specs.Prelude.{IsErrOf, Some};
 ghost use Rattle.std.specs.String.{string_bytes};
 ghost use Rattle.cell_base.specs.Screen.{IsScreen, Screen, height, put};
 ghost use Rattle.cell_surface.specs.Surface.{Surface as Kept, number_of, shown_by};
-ghost use Rattle.terminal_table.specs.Modes.{Modes as TableModes};
-ghost use Rattle.terminal_table.specs.Requests.{request_changes};
-ghost use Rattle.terminal_table.specs.Runs.{Running, columns_for, insert_request, is_put_plainly, prepared, put_next};
-ghost use Rattle.terminal_table.specs.Runs.{screen_alone, text_changes, text_put, wrap_request};
-ghost use Rattle.terminal_table.specs.Turns.{IsRunText};
+ghost use Rattle.terminal_table.specs.Modes.{Modes as TableModes, with_last};
+ghost use Rattle.terminal_table.specs.Runs.{Running, changes_asked, changes_repeated, columns_for, insert_request};
+ghost use Rattle.terminal_table.specs.Runs.{is_put_plainly, last_cluster, prepared, put_next, text_as, text_changes};
+ghost use Rattle.terminal_table.specs.Runs.{text_put, wrap_request};
+ghost use Rattle.terminal_table.specs.State.{HasLast};
+ghost use Rattle.terminal_table.specs.RunText.{IsRunText};
 ghost use Rattle.terminal_steps.specs.ProfileView.{modes_in};
 ghost use Rattle.terminal_steps.specs.RunView.{GoesOn, IsAt, IsFrame, PutsRun, PutsText, RunsOn};
 ghost use Rattle.xterm_steps.specs.Additions.{Adds, CopiesAndAdds};
@@ -22,6 +23,7 @@ use crate::profile::{Modes, Region, region_on};
 use crate::requests::{feeds_plainly, scrolls_plainly};
 use crate::xterm::{XtermFunction, perform_xterm};
 use cell_base::Widths;
+use cell_surface::laws::surfaces_stay_lawful;
 use cell_surface::{Surface, SurfaceError};
 use std::alloc::{AllocError, Global};
 use std::mem;
@@ -88,8 +90,8 @@ impl Frame {
     // Whether nothing is asked for before a cluster of so many columns.
     fn is_put_plainly(&self, run: &Run, columns: usize) -> bool
         requires { 1 ≤ columns }
-        ensures { (modes : TableModes) (screen : Screen) → IsFrame modes screen self.now → screen.column ≡ run.now.column
-            → screen.row ≡ run.now.row → result ≡ is_put_plainly modes columns screen }
+        ensures { (modes : TableModes) (screen : Screen) → IsFrame modes screen self.now
+            → screen.column ≡ run.now.column → screen.row ≡ run.now.row → result ≡ is_put_plainly modes columns screen }
     {
         if self.insert {
             return false;
@@ -155,8 +157,8 @@ fn wrap<W: Widths + Drop>(
     requires stays { surface.old.is_failed ≡ false }
     requires some { 1 ≤ columns }
     ensures { CopiesAndAdds (λ w. W.width_of w) surface.old
-        (request_changes (wrap_request (modes_in modes.now) columns (shown_by surface.old).screen)
-        (screen_alone (shown_by surface.old).screen)) result surface.new }
+        (changes_asked (wrap_request (modes_in modes.now) columns (shown_by surface.old).screen)
+        (shown_by surface.old).screen) result surface.new }
 {
     let (column, _) = surface.cursor_position();
     let (width, _) = surface.dimensions();
@@ -184,8 +186,8 @@ fn insert<W: Widths + Drop>(
     requires some { 1 ≤ columns }
     requires most { columns ≤ 2 }
     ensures { CopiesAndAdds (λ w. W.width_of w) surface.old
-        (request_changes (insert_request (modes_in modes.now) columns (shown_by surface.old).screen)
-        (screen_alone (shown_by surface.old).screen)) result surface.new }
+        (changes_asked (insert_request (modes_in modes.now) columns (shown_by surface.old).screen)
+        (shown_by surface.old).screen) result surface.new }
 {
     let (column, _) = surface.cursor_position();
     let (width, _) = surface.dimensions();
@@ -274,36 +276,124 @@ fn put_clusters<W: Widths + Drop>(
     run.end(surface)
 }
 
-// Puts a run on a surface that hasn't failed.
+// How many bytes of memory are kept for the run before, at most, once it is forgotten.
+const MOST_KEPT: usize = 4096;
+
+/// The run before is forgotten. The memory of a long one is given back.
+pub(crate) fn forget_last(alloc: Global, last: &mut String)
+    ensures { string_bytes last.new ≡ [] }
+{
+    if last.capacity() <= MOST_KEPT {
+        last.clear();
+    } else {
+        *last = String::new(alloc);
+    }
+}
+
+// A text is kept as the run before.
+fn keep_last(modes: &mut Modes, text: &str) -> Result<(), AllocError>
+    ensures { OnOk result (modes_in modes.new ≡ with_last text.now (modes_in modes.old)) }
+{
+    modes.last.clear();
+    modes.last.push_str(text)
+}
+
+// Puts a run on a surface that hasn't failed, and keeps it as the one before.
 fn put_run<W: Widths + Drop>(
     alloc: Global,
     surface: &mut Surface<W>,
-    modes: &Modes,
+    modes: &mut Modes,
     text: String,
 ) -> Result<(), SurfaceError>
     requires stays { surface.old.is_failed ≡ false }
     requires some { string_bytes text ≢ [] }
-    ensures { PutsRun (λ w. W.width_of w) (modes_in modes.now) surface.old (string_bytes text) result surface.new }
+    ensures puts { PutsRun (λ w. W.width_of w) (modes_in modes.old) surface.old (string_bytes text) result surface.new }
+    ensures last { OnOk result
+        (modes_in modes.new ≡ with_last (text_as (modes_in modes.old) (string_bytes text)) (modes_in modes.old)) }
 {
     let text = text_in(alloc, charset_in_use(modes.charsets), text)?;
     let frame = Frame::on(modes, surface);
     if is_put_as_one(&frame, surface, &text) {
+        keep_last(modes, &text)?;
         return add_run(surface, text);
     }
-    put_clusters(alloc, surface, modes, &frame, &text)
+    let put = put_clusters(alloc, surface, modes, &frame, &text);
+    keep_last(modes, &text)?;
+    put
 }
 
-/// Puts a run under xterm, apart from what a plain terminal shares. Refuses as the surface does; where a copy is refused
-/// memory the surface has failed, too.
+// The last cluster of a text; none, where the text is empty.
+fn last_cluster(text: &str) -> &str
+    ensures { result.now ≡ last_cluster text.now }
+{
+    let mut last = "";
+    let mut left = text;
+    while let Some((cluster, after)) = split_first_cluster(left) {
+        last = cluster;
+        left = after;
+    }
+    last
+}
+
+// Puts a cluster as a run of its own.
+fn put_cluster<W: Widths + Drop>(
+    alloc: Global,
+    surface: &mut Surface<W>,
+    modes: &Modes,
+    cluster: &str,
+) -> Result<(), SurfaceError>
+    requires { cluster.now ≢ [] }
+    ensures { PutsText (λ w. W.width_of w) (modes_in modes.now) surface.old cluster.now result surface.new }
+{
+    if surface.is_failed() {
+        return Err(SurfaceError::Failed);
+    }
+    let frame = Frame::on(modes, surface);
+    put_clusters(alloc, surface, modes, &frame, cluster)
+}
+
+/// REP: puts the last cluster of the run before so many times, each time as a run of its own. Refuses as the surface
+/// does, and for want of memory for a copy; it refuses a change that has no number before it copies anything.
+pub(crate) fn repeat_last<W: Widths + Drop>(
+    alloc: Global,
+    surface: &mut Surface<W>,
+    modes: &Modes,
+    count: usize,
+) -> Result<(), SurfaceError>
+    requires stays { surface.old.is_failed ≡ false }
+    ensures added { HasLast (Some (modes_in modes.now))
+        → CopiesAndAdds (λ w. W.width_of w) surface.old
+        (changes_repeated (modes_in modes.now) (W.width_of surface.old.grid.widths) count
+        (shown_by surface.old).screen) result surface.new }
+    ensures memory { IsErrOf result SurfaceError.Memory → number_of surface.old + 1 < 2 ^ 64 }
+{
+    surfaces_stay_lawful(surface);
+    let cluster = last_cluster(&modes.last);
+    if cluster.is_empty() || count == 0 {
+        return add_nothing(surface);
+    }
+    if surface.current_seqno() == usize::MAX {
+        return Err(SurfaceError::Number);
+    }
+    for _ in 0..count {
+        put_cluster(alloc, surface, modes, cluster)?;
+    }
+    Ok(())
+}
+
+/// Puts a run under xterm, apart from what a plain terminal shares, and keeps it as the one before. Refuses as the
+/// surface does; where a copy is refused memory the surface has failed, too.
 #[inline(never)]
 pub(crate) fn print_xterm<W: Widths + Drop>(
     alloc: Global,
     surface: &mut Surface<W>,
-    modes: &Modes,
+    modes: &mut Modes,
     text: String,
 ) -> Result<(), SurfaceError>
     requires some { string_bytes text ≢ [] }
-    ensures puts { PutsRun (λ w. W.width_of w) (modes_in modes.now) surface.old (string_bytes text) result surface.new }
+    ensures puts { PutsRun (λ w. W.width_of w) (modes_in modes.old) surface.old (string_bytes text) result surface.new }
+    ensures last { OnOk result
+        (modes_in modes.new ≡ with_last (text_as (modes_in modes.old) (string_bytes text)) (modes_in modes.old)) }
     ensures memory { IsErrOf result SurfaceError.Memory → surface.new.is_failed ≡ true }
     ensures numbered { IsErrOf result SurfaceError.Memory → number_of surface.old + 1 < 2 ^ 64 }
 {

@@ -1,33 +1,43 @@
-//! Saved cursors of the profile xterm, and its two screens, of which one is shown.
-ghost use Rattle.std.specs.Prelude.{◌≡◌, ◌≤◌, ◌<◌, ◌^◌, false, not, IfOk, IsErrOf, OnErr, OnOk};
+//! Saved cursors of the profile xterm; its two screens, of which one is shown; the soft reset and the alignment
+//! display; and titles that are pushed.
+ghost use Rattle.std.specs.Prelude.{◌≡◌, ◌≤◌, ◌<◌, ◌+◌, ◌^◌, ◌∷◌, drop, false, map, not, take, IfOk, IsErrOf, OnErr};
+ghost use Rattle.std.specs.Prelude.{OnOk};
+ghost use Rattle.std.specs.String.{string_bytes};
 ghost use Rattle.cell_base.specs.Screen.{Screen, height};
 ghost use Rattle.cell_surface.specs.Surface.{number_of, shown_by};
 ghost use Rattle.screen_difference.specs.FreshCells.{rows_of};
 ghost use Rattle.terminal_steps.specs.FunctionView.{screen_function};
-ghost use Rattle.terminal_steps.specs.Memory.{TakesScreenMemory};
+ghost use Rattle.terminal_steps.specs.Memory.{TakesScreenMemory, adds_always};
 ghost use Rattle.terminal_steps.specs.ProfileView.{modes_in};
 ghost use Rattle.terminal_steps.specs.Switches.{CanSwitch, Switches, screens_on};
+ghost use Rattle.terminal_table.specs.Alignment.{alignment_letter, modes_aligned, screen_aligned};
+ghost use Rattle.terminal_table.specs.Led.{led};
 ghost use Rattle.terminal_table.specs.Modes.{other_rows, region_on};
 ghost use Rattle.terminal_table.specs.Screens as screens;
-ghost use Rattle.terminal_table.specs.Screens.{cursor_saved, is_pending, restored_column, restored_row};
+ghost use Rattle.terminal_table.specs.Screens.{cursor_saved, is_pending, restored_column, restored_row, title_changes};
 ghost use Rattle.terminal_table.specs.Steps.{active_column, blanks_for};
+ghost use Rattle.xterm_steps.specs.Additions.{Adds, CopiesAndAdds};
 ghost use Rattle.xterm_steps.specs.Becomes.{Becomes};
 ghost use Rattle.xterm_table.specs.Follows.{Follows};
 
+use crate::changes::{add, add_nothing, add_pen};
+use crate::charsets::initial_charsets;
+use crate::cursor::Pen;
 use crate::cursor_moves::current_column;
 use crate::erase::erase_display;
-use crate::profile::{Modes, SavedModes, add_lines, region_on};
+use crate::profile::{Modes, SavedModes, add_lines, region_on, unsaved_modes};
 use crate::requests::is_pending;
 use crate::saved::{SavedCursor, cursor_to_restore};
-use cell_base::{CellAttributes, Widths};
+use cell_base::{Cell, CellAttributes, CursorVisibility, SEQ_ZERO, Widths};
 use cell_line::Line;
 use cell_surface::laws::surfaces_stay_lawful;
 use cell_surface::{Surface, SurfaceError};
+use screen_change::Change;
 use std::alloc::{AllocError, Global};
 use std::mem;
 use xterm_steps::{blank_line, place_with_pen, show_screen};
 
-/// What saves and restores cursors, and changes the screen that is shown.
+/// What saves and restores cursors, changes the screen that is shown, and what else changes both it and the modes.
 #[derive(Clone, Copy)]
 pub(crate) enum ScreenFunction {
     /// DECSC (ESC 7), SCOSC (CSI s), DECSET 1048.
@@ -44,6 +54,13 @@ pub(crate) enum ScreenFunction {
     SaveAndShowCleared,
     /// DECRST 1049 on the alternate screen: shows the other one, and restores the cursor that was saved there.
     ShowAndRestore,
+    /// DECSTR (CSI ! p): a plain pen, a visible cursor, no saved cursor, all rows scroll, and modes as those of a new
+    /// terminal.
+    SoftReset,
+    /// CSI 22 t: pushes the title.
+    PushTitle,
+    /// CSI 23 t: the title that was pushed last comes back.
+    PopTitle,
 }
 
 // The cursor of a surface, to be saved; in the last column, where a wrap is pending.
@@ -361,6 +378,126 @@ fn show_and_restore<W: Widths + Drop>(
     Ok(())
 }
 
+// DECSTR.
+fn soft_reset<W: Widths + Drop>(
+    surface: &mut Surface<W>,
+    saved: &mut Option<SavedCursor>,
+    modes: &mut Modes,
+) -> Result<(), SurfaceError>
+    requires stays { surface.old.is_failed ≡ false }
+    ensures { Switches (λ w. W.width_of w) (screens_on surface.old saved.old (modes_in modes.old)) screens.SoftReset
+        surface.old result surface.new saved.new (modes_in modes.new) }
+{
+    let attributes = CellAttributes::blank();
+    add_pen(surface, Pen { attributes })?;
+    add(surface, Change::CursorVisibility(CursorVisibility::Visible))?;
+    *saved = None;
+    modes.region = None;
+    modes.origin = false;
+    modes.insert = false;
+    modes.autowrap = true;
+    modes.charsets = initial_charsets();
+    modes.with_cursor = unsaved_modes();
+    modes.flags.application_cursor = false;
+    modes.flags.application_keypad = false;
+    Ok(())
+}
+
+// The title is pushed; of those that were, ten stay.
+fn push_title<W: Widths + Drop>(
+    alloc: Global,
+    surface: &Surface<W>,
+    titles: &mut Vec<String>,
+) -> Result<(), AllocError>
+    ensures { OnOk result
+        (map string_bytes titles.new.items
+        ≡ take 10 ((shown_by surface.now).screen.title ∷ map string_bytes titles.old.items)) }
+{
+    let mut title = String::new(alloc);
+    title.push_str(surface.title())?;
+    titles.insert(0, title)?;
+    titles.truncate(10);
+    Ok(())
+}
+
+// The title that was pushed last comes back, if there is one.
+fn pop_title<W: Widths + Drop>(
+    surface: &mut Surface<W>,
+    titles: &mut Vec<String>,
+) -> Result<(), SurfaceError>
+    requires stays { surface.old.is_failed ≡ false }
+    ensures added { Adds (λ w. W.width_of w) surface.old (title_changes (map string_bytes titles.old.items)) result
+        surface.new }
+    ensures titles { map string_bytes titles.new.items ≡ drop 1 (map string_bytes titles.old.items) }
+{
+    if titles.is_empty() {
+        return add_nothing(surface);
+    }
+    add(surface, Change::Title(titles.remove(0)))
+}
+
+// The letter E; a space, where an E takes two columns.
+fn alignment_letter<W: Widths>(widths: &W) -> &str
+    ensures { result.now ≡ alignment_letter (W.width_of widths.now) }
+{
+    if 2 <= widths.width("E") { " " } else { "E" }
+}
+
+// Lines of the letter E in every column, as many as the screen has.
+fn letter_lines<W: Widths + Drop>(
+    alloc: Global,
+    surface: &Surface<W>,
+) -> Result<Vec<Line>, AllocError>
+    requires { surface.now.is_failed ≡ false }
+    ensures { IfOk result
+        (λ lines. rows_of lines.items
+        ≡ (screen_aligned (W.width_of surface.now.grid.widths) (shown_by surface.now).screen).rows) }
+{
+    let (width, height) = surface.dimensions();
+    let letter = alignment_letter(surface.widths());
+    let mut lines = Vec::new(alloc);
+    for _ in 0..height {
+        let cell = Cell::new_grapheme_with_width(alloc, letter, 1, CellAttributes::blank())?;
+        lines.push(Line::with_width_and_cell(alloc, width, cell, SEQ_ZERO)?)?;
+    }
+    Ok(lines)
+}
+
+/// DECALN (ESC # 8): every column is an E with plain attributes, the cursor is at home, and all rows scroll. Refuses as
+/// `switch_screens`.
+pub(crate) fn align<W: Widths + Drop>(
+    alloc: Global,
+    surface: &mut Surface<W>,
+    modes: &mut Modes,
+) -> Result<(), SurfaceError>
+    requires stays { surface.old.is_failed ≡ false }
+    ensures added { CopiesAndAdds (λ w. W.width_of w) surface.old
+        (led (shown_by surface.old).screen
+        (screen_aligned (W.width_of surface.old.grid.widths) (shown_by surface.old).screen)) result surface.new }
+    ensures modes { IfOk result (λ _. modes_in modes.new ≡ modes_aligned (modes_in modes.old)) }
+    ensures memory { IsErrOf result SurfaceError.Memory → number_of surface.old + 1 < 2 ^ 64 }
+{
+    surfaces_stay_lawful(surface);
+    if surface.current_seqno() == usize::MAX {
+        return Err(SurfaceError::Number);
+    }
+    let lines = letter_lines(alloc, surface)?;
+    show_screen(alloc, surface, &lines, 0, 0, &CellAttributes::blank())?;
+    modes.region = None;
+    modes.origin = false;
+    Ok(())
+}
+
+// Whether a function adds a change in any case.
+fn adds_always(function: ScreenFunction) -> bool
+    ensures { result ≡ adds_always (screen_function function) }
+{
+    match function {
+        ScreenFunction::SaveCursor | ScreenFunction::PushTitle | ScreenFunction::PopTitle => false,
+        _ => true,
+    }
+}
+
 // Does a function on a surface that hasn't failed.
 fn perform<W: Widths + Drop>(
     alloc: Global,
@@ -371,8 +508,8 @@ fn perform<W: Widths + Drop>(
 ) -> Result<(), SurfaceError>
     requires stays { surface.old.is_failed ≡ false }
     ensures { CanSwitch (λ w. W.width_of w) surface.old (modes_in modes.old)
-        → Switches (λ w. W.width_of w) (screens_on surface.old saved.old (modes_in modes.old)) (screen_function function)
-        surface.old result surface.new saved.new (modes_in modes.new) }
+        → Switches (λ w. W.width_of w) (screens_on surface.old saved.old (modes_in modes.old))
+        (screen_function function) surface.old result surface.new saved.new (modes_in modes.new) }
 {
     match function {
         ScreenFunction::SaveCursor => save_cursor(surface, saved, modes),
@@ -382,12 +519,18 @@ fn perform<W: Widths + Drop>(
         ScreenFunction::SaveAndClear => save_and_clear(surface, saved, modes),
         ScreenFunction::SaveAndShowCleared => save_and_show_cleared(alloc, surface, saved, modes),
         ScreenFunction::ShowAndRestore => show_and_restore(alloc, surface, saved, modes),
+        ScreenFunction::SoftReset => soft_reset(surface, saved, modes),
+        ScreenFunction::PushTitle => {
+            push_title(alloc, surface, &mut modes.titles)?;
+            Ok(())
+        }
+        ScreenFunction::PopTitle => pop_title(surface, &mut modes.titles),
     }
 }
 
 /// Does a function on a surface that hasn't failed. Refuses as the surface does, and for want of memory for a copy of
-/// the cursor or of rows; but for the saving of a cursor, which adds no change, it refuses a change that has no number
-/// before it copies anything.
+/// the cursor, of rows or of a title; where it adds a change in any case, it refuses one that has no number before it
+/// copies anything.
 pub(crate) fn switch_screens<W: Widths + Drop>(
     alloc: Global,
     surface: &mut Surface<W>,
@@ -397,17 +540,14 @@ pub(crate) fn switch_screens<W: Widths + Drop>(
 ) -> Result<(), SurfaceError>
     requires stays { surface.old.is_failed ≡ false }
     ensures done { CanSwitch (λ w. W.width_of w) surface.old (modes_in modes.old)
-        → Switches (λ w. W.width_of w) (screens_on surface.old saved.old (modes_in modes.old)) (screen_function function)
-        surface.old result surface.new saved.new (modes_in modes.new) }
+        → Switches (λ w. W.width_of w) (screens_on surface.old saved.old (modes_in modes.old))
+        (screen_function function) surface.old result surface.new saved.new (modes_in modes.new) }
     ensures memory { IsErrOf result SurfaceError.Memory → number_of surface.old < 2 ^ 64
         → TakesScreenMemory (screen_function function) (number_of surface.old) }
 {
     surfaces_stay_lawful(surface);
-    let is_last = surface.current_seqno() == usize::MAX;
-    match function {
-        ScreenFunction::SaveCursor => {}
-        _ if is_last => return Err(SurfaceError::Number),
-        _ => {}
+    if adds_always(function) && surface.current_seqno() == usize::MAX {
+        return Err(SurfaceError::Number);
     }
     perform(alloc, surface, saved, modes, function)
 }

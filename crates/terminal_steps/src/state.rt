@@ -1,5 +1,6 @@
 //! The state that a terminal keeps beside its parser, and its changes by events.
-ghost use Rattle.std.specs.Prelude.{◌≡◌, ◌<◌, ◌+◌, ◌^◌, true, false, IsOk, IfOk, OnOk, IsErrOf, None, [], ◌∷◌};
+ghost use Rattle.std.specs.Prelude.{◌≡◌, ◌<◌, ◌+◌, ◌^◌, true, false, IsOk, IfOk, OnOk, IsErrOf, None, []};
+ghost use Rattle.std.specs.Prelude.{◌∷◌, option_map};
 ghost use Rattle.cell_base.specs.ScreenSize.{IsScreenSize};
 ghost use Rattle.escape_stream.specs.StreamAction.{is_print};
 ghost use Rattle.escape_stream.specs.StreamActionView.{value_of};
@@ -9,7 +10,7 @@ ghost use Rattle.terminal_table.specs.Meaning.{new_view_with};
 ghost use Rattle.terminal_table.specs.History.{Act, Forgot, Looked, Resized};
 ghost use Rattle.terminal_steps.specs.Events.{Does, IsReady, NeedsNumber, surface_in, view_of};
 ghost use Rattle.terminal_steps.specs.Memory.{NeedsMemory};
-ghost use Rattle.terminal_steps.specs.ProfileView.{modes_of};
+ghost use Rattle.terminal_steps.specs.ProfileView.{modes_in, modes_of};
 ghost use Rattle.terminal_table.specs.Replies.{without_replies};
 
 use crate::actions::{apply, print};
@@ -69,6 +70,13 @@ impl<W: Widths + Drop> TerminalState<W> {
         &self.surface
     }
 
+    /// The modes of the profile xterm; none on a plain terminal.
+    pub fn modes(&self) -> Option<&Modes>
+        ensures { option_map (λ modes. modes_in modes.now) result ≡ (view_of self.now).state.modes }
+    {
+        self.modes.as_ref()
+    }
+
     /// Hands out the replies, and keeps none.
     pub fn take_replies(&mut self) -> Vec<u8>
         ensures replies { result.items ≡ (view_of self.old).state.replies }
@@ -93,7 +101,8 @@ impl<W: Widths + Drop> TerminalState<W> {
         ensures numbers { IsErrOf result SurfaceError.Number → NeedsNumber (λ w. W.width_of w) self.old (Looked ∷ []) }
         ensures memory { IsErrOf result SurfaceError.Memory → (surface_in self.new).is_failed ≡ true }
         ensures numbered { IsErrOf result SurfaceError.Memory → number_of (surface_in self.old) + 1 < 2 ^ 64 }
-        ensures refused { IsErrOf result SurfaceError.Memory → NeedsMemory (λ w. W.width_of w) self.old Looked self.new }
+        ensures refused { IsErrOf result SurfaceError.Memory
+            → NeedsMemory (λ w. W.width_of w) self.old Looked self.new }
         ensures nothing { (view_of self.old).held ≡ [] → IsOk result }
     {
         if self.held.is_empty() {
@@ -102,7 +111,7 @@ impl<W: Widths + Drop> TerminalState<W> {
         let next = self.surface.pooled_text();
         let text = mem::replace(&mut self.held, next);
         let alloc = *self.replies.allocator();
-        match &self.modes {
+        match &mut self.modes {
             None => print(&mut self.surface, text),
             Some(modes) => print_xterm(alloc, &mut self.surface, modes, text),
         }

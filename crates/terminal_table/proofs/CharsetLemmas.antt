@@ -10,7 +10,7 @@ use Rattle.std.proofs.lemmas.List.Folds.{list_all-append}
 use Rattle.std.proofs.lemmas.Str.{chars-encodes, length-le-encodes}
 use Rattle.std.proofs.lemmas.List.{length-map}
 use Rattle.terminal_table.specs.Charsets.{Charset, Ascii, Graphics, British, character_in, graphics, text_in}
-use Rattle.terminal_table.specs.Turns.{IsRunText}
+use Rattle.terminal_table.specs.RunText.{IsRunText}
 
 -- a byte is no ASCII control
 abbrev is_plain : ℕ → Bool

@@ -12,7 +12,7 @@ use Rattle.text_clusters.proofs.PlainLemmas.{graphemes-nil}
 use Rattle.text_clusters.proofs.TextLemmas.{after_fewer, after_scalars, chars_after, cluster_cut, cluster_whole, first_cluster, joined_clusters}
 use Rattle.cell_base.specs.Cluster.{clusters}
 use Rattle.cell_base.proofs.PlainClusters.{clusters_are}
-use Rattle.terminal_table.specs.Turns.{IsRunText}
+use Rattle.terminal_table.specs.RunText.{IsRunText}
 
 take_first : (xs ys : List ℕ) → take (length xs) (xs ++ ys) ≡ xs
 take_first [] ys = refl

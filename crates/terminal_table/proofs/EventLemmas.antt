@@ -89,7 +89,7 @@ act_follows : (width_of : List ℕ → ℕ) (v : View) (action : StreamAction) (
 act_follows width_of v action d h k e = by_test (is_print action) refl
   where
     changes : List ChangeValue
-    changes = acted_changes action (settled width_of v).state
+    changes = acted_changes width_of action (settled width_of v).state
 
     first : Display
     first = replay width_of d (changes_in (run_logged width_of v))

@@ -19,6 +19,7 @@ pub mod StreamLemmas
 pub mod PositionLemmas
 pub mod LedLemmas
 pub mod XtermLemmas
+pub mod AlignLemmas
 pub mod SwitchLemmas
 pub mod RequestLemmas
 pub mod CharsetLemmas

@@ -15,7 +15,8 @@ use Rattle.escape_stream.specs.Controls.{control_named}
 use Rattle.escape_stream.specs.StreamAction.{StreamAction, printed, csi}
 use Rattle.escape_stream.specs.StreamActions.{named_control, actions_of_dispatch, actions_of, newly_decided_actions}
 use Rattle.terminal_table.specs.History.{History, Piece, Look, Resize, Forget, Event, Act, events}
-use Rattle.terminal_table.specs.Turns.{IsRunText, AreEvents, AreSizes}
+use Rattle.terminal_table.specs.RunText.{IsRunText}
+use Rattle.terminal_table.specs.Turns.{AreEvents, AreSizes}
 use Rattle.terminal_table.proofs.RunLemmas.{character_runs, no_text}
 
 -- ---- dispatches whose prints are printable

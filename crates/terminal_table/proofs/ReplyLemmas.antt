@@ -11,8 +11,8 @@ use Rattle.terminal_table.specs.History.{History, Piece, Forget, pieces, Event, 
 use Rattle.terminal_table.specs.Logged.{run_logged, event_logged, events_logged, logged}
 use Rattle.terminal_table.specs.Meaning.{View, settled, event_done, after, with_size}
 use Rattle.terminal_table.specs.Replies.{with_taken, without_replies}
-use Rattle.terminal_table.specs.Request.{Request, Table, Xterm, Sets, SetsAlone, Switches, Replies, modes_set}
-use Rattle.terminal_table.specs.Requests.{acted, acted_changes, request_changes, request_done, request_of}
+use Rattle.terminal_table.specs.Request.{Request, Table, Xterm, Sets, SetsAlone, Switches, Repeats, Aligns, Replies, Nothing, modes_set}
+use Rattle.terminal_table.specs.Requests.{acted, acted_changes, request_changes, request_done, request_of, without_last}
 use Rattle.terminal_table.specs.Runs.{run_step}
 use Rattle.terminal_table.specs.State.{State}
 use Rattle.terminal_table.specs.Steps.{reply_step, status_reply, position_reply, step}
@@ -52,22 +52,28 @@ module _ (width_of : List ℕ → ℕ) (taken : List ℕ) where
       by_test true = refl
       by_test false = refl
 
-  step_with : (request : Option Request) (state : State) → request_done request (with_prefix taken state) ≡ with_prefix taken (request_done request state)
+  step_with : (request : Option Request) (state : State) → request_done width_of request (with_prefix taken state) ≡ with_prefix taken (request_done width_of request state)
   step_with None state = refl
   step_with (Some (Table function)) state = λ i. record (step function state) { replies = reply_after function taken state.replies state.screen i }
   step_with (Some (Xterm function)) state = refl
   step_with (Some (Sets setting function)) state = λ i. record (step function state) { replies = reply_after function taken state.replies state.screen i; modes = option_map (modes_set setting) state.modes }
   step_with (Some (SetsAlone setting)) state = refl
   step_with (Some (Switches function)) state = refl
+  step_with (Some (Repeats count)) state = refl
+  step_with (Some Aligns) state = refl
+  step_with (Some Nothing) state = refl
   step_with (Some (Replies text)) state = λ i. record state { replies = append_assoc taken state.replies text i }
 
-  changes_with : (request : Option Request) (state : State) → request_changes request (with_prefix taken state) ≡ request_changes request state
+  changes_with : (request : Option Request) (state : State) → request_changes width_of request (with_prefix taken state) ≡ request_changes width_of request state
   changes_with None state = refl
   changes_with (Some (Table function)) state = refl
   changes_with (Some (Xterm function)) state = refl
   changes_with (Some (Sets setting function)) state = refl
   changes_with (Some (SetsAlone setting)) state = refl
   changes_with (Some (Switches function)) state = refl
+  changes_with (Some (Repeats count)) state = refl
+  changes_with (Some Aligns) state = refl
+  changes_with (Some Nothing) state = refl
   changes_with (Some (Replies text)) state = refl
 
   done_with : (v : View) (event : Event) → event_done width_of (with_taken taken v) event ≡ with_taken taken (event_done width_of v event)
@@ -75,8 +81,8 @@ module _ (width_of : List ℕ → ℕ) (taken : List ℕ) where
     where
       by_test : (b : Bool) → is_print action ≡ b → event_done width_of (with_taken taken v) (Act action) ≡ with_taken taken (event_done width_of v (Act action))
       by_test true e = rw e refl
-      by_test false e = rw e (ap (λ (x : View). record x { state = acted action x.state }) (settled_with v)
-          ∙ ap (λ (s : State). record (settled width_of v) { state = s }) (step_with (request_of (settled width_of v).state.modes (settled width_of v).state.screen action) (settled width_of v).state))
+      by_test false e = rw e (ap (λ (x : View). record x { state = acted width_of action x.state }) (settled_with v)
+          ∙ ap (λ (s : State). record (settled width_of v) { state = without_last s }) (step_with (request_of (settled width_of v).state.modes (settled width_of v).state.screen action) (settled width_of v).state))
   done_with v Looked = settled_with v
   done_with v (Resized width tall) = ap (λ (x : View). record x { state = with_size width tall x.state }) (settled_with v)
   done_with v (Forgot number) = refl
@@ -88,7 +94,7 @@ module _ (width_of : List ℕ → ℕ) (taken : List ℕ) where
   one_logged_with : (v : View) (event : Event) → event_logged width_of (with_taken taken v) event ≡ event_logged width_of v event
   one_logged_with v (Act action) =
       ap (λ (cs : List ChangeValue). if is_print action then [] else run_logged width_of v ++ map Logged cs)
-      (ap (λ (x : View). acted_changes action x.state) (settled_with v) ∙ changes_with (request_of (settled width_of v).state.modes (settled width_of v).state.screen action) (settled width_of v).state)
+      (ap (λ (x : View). acted_changes width_of action x.state) (settled_with v) ∙ changes_with (request_of (settled width_of v).state.modes (settled width_of v).state.screen action) (settled width_of v).state)
   one_logged_with v Looked = refl
   one_logged_with v (Resized width tall) = refl
   one_logged_with v (Forgot number) = refl

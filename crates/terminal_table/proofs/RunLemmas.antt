@@ -17,7 +17,8 @@ use Rattle.screen_effects.specs.Display.{Display}
 use Rattle.screen_effects.specs.Effect.{effect}
 use Rattle.screen_effects.specs.Strokes.{Plain, Cluster, with_byte, text_parts, part_strokes, strokes, stroke_done}
 use Rattle.terminal_table.specs.Changes.{run_change}
-use Rattle.terminal_table.specs.Turns.{Turns, IsPrinted, IsRunText}
+use Rattle.terminal_table.specs.RunText.{IsPrinted, IsRunText}
+use Rattle.terminal_table.specs.Turns.{Turns}
 use Rattle.terminal_table.proofs.ListLemmas.{append_nil}
 use Rattle.terminal_table.proofs.TurnLemmas.{stroke_single}
 

@@ -1,5 +1,5 @@
 -- Runs: what is logged for one leads to the screen after it, and states stay lawful, under either profile.
-use Rattle.std.proofs.Common.{◌≡◌, ℕ, ◌+◌, ◌<◌, Bool, true, false, List, [], ◌∷◌, ◌++◌, fold, length, drop, refl, sym, ap, subst, ◌∙◌, arith, length-append}
+use Rattle.std.proofs.Common.{◌≡◌, ℕ, zero, suc, ◌+◌, ◌<◌, Bool, true, false, List, [], ◌∷◌, ◌++◌, fold, length, drop, refl, sym, ap, subst, ◌∙◌, arith, length-append}
 use Rattle.std.specs.Prelude.{◌==◌, ◌&&◌, nat_lt, slice_index_or, Option, Some, None, if◌then◌else◌}
 use Rattle.std.proofs.lemmas.List.{length-set}
 use Rattle.std.proofs.lemmas.List.Sums.{fold-append}
@@ -14,23 +14,24 @@ use Rattle.screen_effects.proofs.EffectLaws.{replay_is}
 use Rattle.terminal_table.specs.Changes.{run_change}
 use Rattle.terminal_table.specs.Functions.{Moves, NextRow, Right}
 use Rattle.terminal_table.specs.Modes.{Modes, Region, region_on}
-use Rattle.terminal_table.specs.Request.{Request, Table, Xterm}
-use Rattle.terminal_table.specs.Requests.{request_changes, request_done}
+use Rattle.terminal_table.specs.Request.{Request, Table, Xterm, Sets, SetsAlone, Switches, Repeats, Aligns, Replies, Nothing}
 use Rattle.terminal_table.specs.RunTurns.{IsAlike, IsRunning}
-use Rattle.terminal_table.specs.Runs.{Running, asked, columns_for, fits, insert_request, is_put_plainly, prepared, put_next, run_begun, run_changes, run_changes_of, run_done, run_screen, run_step, screen_alone, text_as, text_changes, text_put, with_cluster, wrap_request}
-use Rattle.terminal_table.specs.State.{State, IsState}
-use Rattle.terminal_table.specs.Turns.{Turns, IsRunText}
+use Rattle.terminal_table.specs.Runs.{Running, asked, changes_asked, changes_repeated, columns_for, fits, insert_request, is_put_plainly, last_cluster, prepared, put_again, put_next, run_begun, run_changes, run_changes_of, run_done, run_modes, run_screen, run_step, screen_alone, screen_asked, screen_repeated, text_as, text_changes, text_put, with_cluster, wrap_request}
+use Rattle.terminal_table.specs.State.{CanBeShown, HasLast, State, IsState}
+use Rattle.terminal_table.specs.Steps.{step}
+use Rattle.terminal_table.specs.RunText.{IsRunText}
+use Rattle.terminal_table.specs.Turns.{Turns}
 use Rattle.terminal_table.specs.Xterm.{InsertCharacters, NextLine}
-use Rattle.terminal_table.specs.XtermRequests.{feeds_plainly, next_line_request}
+use Rattle.terminal_table.specs.Feeds.{feeds_plainly, next_line_request}
 use Rattle.terminal_table.specs.Charsets.{charset_in_use}
 use Rattle.terminal_table.proofs.CharsetLemmas.{run_in}
 use Rattle.terminal_table.proofs.ClusterLemmas.{AreRunTexts, clusters_run}
-use Rattle.terminal_table.proofs.RequestLemmas.{request_is, request_turns}
 use Rattle.terminal_table.proofs.RunLemmas.{no_clusters, no_text, run_turns, text_append}
 use Rattle.terminal_table.proofs.ScreenLemmas.{modes_still}
-use Rattle.terminal_table.proofs.StateLemmas.{HasSize, display_on, display_on_is, put_is, put_size, turned_size}
+use Rattle.terminal_table.proofs.StateLemmas.{HasSize, display_on, display_on_is, put_is, put_size, step_is, turned_size}
 use Rattle.terminal_table.proofs.StreamLemmas.{put_width}
-use Rattle.terminal_table.proofs.XtermLemmas.{pen_stays}
+use Rattle.terminal_table.proofs.TurnLemmas.{screen_turns, step_turns}
+use Rattle.terminal_table.proofs.XtermLemmas.{pen_stays, xterm_is, xterm_turns}
 
 pub then_turns : (a b c : Display) (s t : Screen) → Turns a b s → Turns b c t → Turns a c t
 then_turns a b c s t x y = record { screen = y.screen; shape = y.shape ∙ x.shape; sizes = λ h. y.sizes (x.sizes h) }
@@ -85,7 +86,7 @@ next_row_pen s = by_test (s.row + 1 == height s)
 
 -- the pen after a request
 abbrev KeepsPen : Option Request → Screen → Type 0
-KeepsPen request s = (request_done request (screen_alone s)).screen.pen ≡ s.pen
+KeepsPen request s = (screen_asked request s).pen ≡ s.pen
 
 next_line_pen : (region : Region) (s : Screen) → KeepsPen (Some (next_line_request region s)) s
 next_line_pen region s = by_test (feeds_plainly region s)
@@ -113,12 +114,37 @@ insert_pen modes columns s = by_test (modes.insert && fits columns s)
 
 module _ (width_of : List ℕ → ℕ) where
   pub alone_is : (state : State) → IsState width_of state → IsState width_of (screen_alone state.screen)
-  alone_is state h = record { lawful = h.lawful; whole = h.whole; narrow = h.narrow; sound = h.sound; other = tt }
+  alone_is state h = record { lawful = h.lawful; whole = h.whole; narrow = h.narrow; sound = h.sound; other = tt; last = tt }
 
-  request_size : (request : Option Request) (state : State) → IsState width_of state → HasSize (request_done request state).screen state.screen
-  request_size request state h =
-      let on = display_on_is width_of state h in
-      turned_size width_of (request_changes request state) state.screen (request_done request state).screen on (request_turns width_of request state (display_on state.screen) h on refl).screen
+  -- what is asked for on a screen
+  asked_turns : (request : Option Request) (s : Screen) (d : Display) → IsState width_of (screen_alone s) → IsDisplay d → d.screen ≡ s → Turns d (replay width_of d (changes_asked request s)) (screen_asked request s)
+  asked_turns None s d h g e = screen_turns d d.screen s e
+  asked_turns (Some (Table function)) s d h g e = step_turns width_of function (screen_alone s) d h g e
+  asked_turns (Some (Xterm function)) s d h g e = xterm_turns width_of function (screen_alone s) d h g e
+  asked_turns (Some (Sets setting function)) s d h g e = screen_turns d d.screen s e
+  asked_turns (Some (SetsAlone setting)) s d h g e = screen_turns d d.screen s e
+  asked_turns (Some (Switches function)) s d h g e = screen_turns d d.screen s e
+  asked_turns (Some (Repeats count)) s d h g e = screen_turns d d.screen s e
+  asked_turns (Some Aligns) s d h g e = screen_turns d d.screen s e
+  asked_turns (Some (Replies text)) s d h g e = screen_turns d d.screen s e
+  asked_turns (Some Nothing) s d h g e = screen_turns d d.screen s e
+
+  asked_is : (request : Option Request) (s : Screen) → IsState width_of (screen_alone s) → IsState width_of (screen_alone (screen_asked request s))
+  asked_is None s h = h
+  asked_is (Some (Table function)) s h = alone_is (step function (screen_alone s)) (step_is width_of function (screen_alone s) h)
+  asked_is (Some (Xterm function)) s h = xterm_is width_of function (screen_alone s) h
+  asked_is (Some (Sets setting function)) s h = h
+  asked_is (Some (SetsAlone setting)) s h = h
+  asked_is (Some (Switches function)) s h = h
+  asked_is (Some (Repeats count)) s h = h
+  asked_is (Some Aligns) s h = h
+  asked_is (Some (Replies text)) s h = h
+  asked_is (Some Nothing) s h = h
+
+  asked_size : (request : Option Request) (s : Screen) → IsState width_of (screen_alone s) → HasSize (screen_asked request s) s
+  asked_size request s h =
+      let on = display_on_is width_of (screen_alone s) h in
+      turned_size width_of (changes_asked request s) s (screen_asked request s) on (asked_turns request s (display_on s) h on refl).screen
 
   -- a display that shows the screen before a run
   module _ (d : Display) (before : Screen) where
@@ -157,11 +183,10 @@ module _ (width_of : List ℕ → ℕ) where
 
     asked_runs : (request : Option Request) (run : Running) → KeepsPen request run.led → IsRunning width_of d before run → IsRunning width_of d before (asked request run)
     asked_runs request run pen h =
-        let state : State = screen_alone run.led in
         let here : Display = replay width_of d run.changes in
-        let size = request_size request state h.state in
-        more run (request_changes request state) (request_done request state).screen h (alone_is (request_done request state) (request_is width_of request state h.state))
-        (record { wide = size.wide; tall = size.tall; pen = pen }) (request_turns width_of request state here h.state h.shown h.turns.screen)
+        let size = asked_size request run.led h.state in
+        more run (changes_asked request run.led) (screen_asked request run.led) h (asked_is request run.led h.state)
+        (record { wide = size.wide; tall = size.tall; pen = pen }) (asked_turns request run.led here h.state h.shown h.turns.screen)
 
     pub wrapped_runs : (modes : Modes) (columns : ℕ) (run : Running) → IsRunning width_of d before run → IsRunning width_of d before (asked (wrap_request modes columns run.led) run)
     wrapped_runs modes columns run = asked_runs (wrap_request modes columns run.led) run (wrap_pen modes columns run.led)
@@ -229,11 +254,59 @@ module _ (width_of : List ℕ → ℕ) where
       let tall = parts.2 in
       let inside = h.lawful.row_in in
       let is = parts.0 in
-      record { lawful = is.lawful; whole = is.whole; narrow = h.narrow; sound = is.sound; other = modes_still width_of state.screen (run_step width_of text state).screen state.modes wide tall (omega (arith, inside, tall)) h.other }
+      record {
+        lawful = is.lawful;
+        whole = is.whole;
+        narrow = h.narrow;
+        sound = is.sound;
+        other = run_can state.modes (modes_still width_of state.screen (run_step width_of text state).screen state.modes wide tall (omega (arith, inside, tall)) h.other);
+        last = run_last state.modes;
+      }
     where
+      run_can : (modes : Option Modes) → CanBeShown width_of (run_step width_of text state).screen modes → CanBeShown width_of (run_step width_of text state).screen (run_modes text modes)
+      run_can None c = tt
+      run_can (Some modes) c = c
+
+      run_last : (modes : Option Modes) → HasLast (run_modes text modes)
+      run_last None = tt
+      run_last (Some modes) = run_in (charset_in_use modes.charsets) text t
+
       alone : IsState width_of (screen_alone state.screen)
       alone = alone_is state h
 
       by_modes : (modes : Option Modes) → let next = run_screen modes width_of state.screen text in IsState width_of (screen_alone next) × (next.width ≡ state.screen.width) × (height next ≡ height state.screen)
       by_modes None = let size = put_size width_of text state.screen t alone in (put_is width_of text state.screen t alone, size.wide, size.tall)
       by_modes (Some modes) = let is = done_runs (display_on state.screen) state.screen modes (text_as modes text) (run_in (charset_in_use modes.charsets) text t) alone (display_on_is width_of state h) refl in (is.state, is.led.wide, is.led.tall)
+
+  -- ---- a cluster that is repeated
+
+  last_run : (texts : List (List ℕ)) (cluster : List ℕ) → IsRunText cluster → AreRunTexts texts → IsRunText (fold (λ _ next. next) cluster texts)
+  last_run [] cluster h t = h
+  last_run (text ∷ texts) cluster h t = last_run texts text t.0 t.1
+
+  pub last_runs : (modes : Modes) → HasLast (Some modes) → IsRunText (last_cluster modes.last)
+  last_runs modes h = last_run (clusters modes.last) [] no_text (clusters_run modes.last h)
+
+  -- one of them
+  again_runs : (modes : Modes) (s : Screen) (d : Display) → HasLast (Some modes) → IsState width_of (screen_alone s) → IsDisplay d → d.screen ≡ s → IsRunning width_of d s (put_again modes width_of s)
+  again_runs modes s d l h g e = done_runs d s modes (last_cluster modes.last) (last_runs modes l) h g e
+
+  pub repeated_turns : (modes : Modes) (count : ℕ) (s : Screen) (d : Display) → HasLast (Some modes) → IsState width_of (screen_alone s) → IsDisplay d → d.screen ≡ s
+      → Turns d (replay width_of d (changes_repeated modes width_of count s)) (screen_repeated modes width_of count s)
+  repeated_turns modes zero s d l h g e = screen_turns d d.screen s e
+  repeated_turns modes (suc count) s d l h g e =
+      let one = again_runs modes s d l h g e in
+      let put = put_again modes width_of s in
+      let here : Display = replay width_of d put.changes in
+      let there = screen_repeated modes width_of count put.led in
+      let rest = repeated_turns modes count put.led here l one.state one.shown one.turns.screen in
+      subst (λ (x : Display). Turns d x there) (sym (fold-append (effect width_of) d put.changes (changes_repeated modes width_of count put.led)))
+      (then_turns d here (replay width_of here (changes_repeated modes width_of count put.led)) put.led there one.turns rest)
+
+  -- the screen after them
+  pub repeated_is : (modes : Modes) (count : ℕ) (s : Screen) → HasLast (Some modes) → IsState width_of (screen_alone s) → IsState width_of (screen_alone (screen_repeated modes width_of count s)) × HasSize (screen_repeated modes width_of count s) s
+  repeated_is modes zero s l h = (h, record { wide = refl; tall = refl })
+  repeated_is modes (suc count) s l h =
+      let one = again_runs modes s (display_on s) l h (display_on_is width_of (screen_alone s) h) refl in
+      let rest = repeated_is modes count (put_again modes width_of s).led l one.state in
+      (rest.0, record { wide = rest.1.wide ∙ one.led.wide; tall = rest.1.tall ∙ one.led.tall })

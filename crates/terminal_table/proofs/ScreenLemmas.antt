@@ -11,8 +11,10 @@ use Rattle.screen_effects.proofs.SoundLemmas.{new_is_sound}
 use Rattle.screen_effects.proofs.StrokeLaws.{new_display_is}
 use Rattle.xterm_table.specs.Follows.{Follows}
 use Rattle.terminal_table.specs.Modes.{AreNew, Modes, other_rows, other_screen}
-use Rattle.terminal_table.specs.Request.{Setting, ToInitial, ToRegion, ToOrigin, ToInsert, ToAutowrap, ToFirst, ToSecond, ToShift, modes_set}
-use Rattle.terminal_table.specs.State.{CanBeShown}
+use Rattle.terminal_table.specs.Request.{Setting, ToReset, ToRegion, ToOrigin, ToInsert, ToAutowrap, ToNewline, ToStop, ToNoStops, ToFirst, ToSecond, ToShift, ToFlag, ToMouse, ToEncoding, WithoutEncoding, ToStyle, modes_set}
+use Rattle.terminal_table.specs.RunText.{IsRunText}
+use Rattle.terminal_table.specs.State.{CanBeShown, HasLast}
+use Rattle.terminal_table.proofs.RunLemmas.{no_text}
 
 -- ---- the other screen
 
@@ -86,11 +88,43 @@ new_can width_of s None narrow h new = tt
 new_can width_of s (Some modes) narrow h new = subst (λ (m : Modes). Follows width_of s (other_screen s m.other.rows)) (sym new) (plain_follows width_of s narrow h)
 
 pub set_can : (width_of : List ℕ → ℕ) (s : Screen) (setting : Setting) (modes : Modes) → width_of space ≡ 1 → IsScreen s → CanBeShown width_of s (Some modes) → CanBeShown width_of s (Some (modes_set setting modes))
-set_can width_of s ToInitial modes narrow h f = plain_follows width_of s narrow h
+set_can width_of s ToReset modes narrow h f = plain_follows width_of s narrow h
 set_can width_of s (ToRegion region) modes narrow h f = f
 set_can width_of s (ToOrigin origin) modes narrow h f = f
 set_can width_of s (ToInsert insert) modes narrow h f = f
 set_can width_of s (ToAutowrap autowrap) modes narrow h f = f
+set_can width_of s (ToNewline newline) modes narrow h f = f
+set_can width_of s (ToStop column stop) modes narrow h f = f
+set_can width_of s (ToNoStops width) modes narrow h f = f
 set_can width_of s (ToFirst set) modes narrow h f = f
 set_can width_of s (ToSecond set) modes narrow h f = f
 set_can width_of s (ToShift shifted) modes narrow h f = f
+set_can width_of s (ToFlag flag on) modes narrow h f = f
+set_can width_of s (ToMouse protocol) modes narrow h f = f
+set_can width_of s (ToEncoding encoding) modes narrow h f = f
+set_can width_of s (WithoutEncoding reset) modes narrow h f = f
+set_can width_of s (ToStyle style) modes narrow h f = f
+
+-- the run before is a text still
+pub set_last : (setting : Setting) (modes : Modes) → HasLast (Some modes) → HasLast (Some (modes_set setting modes))
+set_last ToReset modes h = no_text
+set_last (ToRegion region) modes h = h
+set_last (ToOrigin origin) modes h = h
+set_last (ToInsert insert) modes h = h
+set_last (ToAutowrap autowrap) modes h = h
+set_last (ToNewline newline) modes h = h
+set_last (ToStop column stop) modes h = h
+set_last (ToNoStops width) modes h = h
+set_last (ToFirst set) modes h = h
+set_last (ToSecond set) modes h = h
+set_last (ToShift shifted) modes h = h
+set_last (ToFlag flag on) modes h = h
+set_last (ToMouse protocol) modes h = h
+set_last (ToEncoding encoding) modes h = h
+set_last (WithoutEncoding reset) modes h = h
+set_last (ToStyle style) modes h = h
+
+-- of new modes
+pub new_last : (modes : Option Modes) → AreNew modes → HasLast modes
+new_last None new = tt
+new_last (Some modes) new = subst (λ (m : Modes). IsRunText m.last) (sym new) no_text

@@ -18,12 +18,13 @@ use Rattle.terminal_table.specs.History.{Event, Act, Looked, events}
 use Rattle.terminal_table.specs.Logged.{events_logged, logged}
 use Rattle.terminal_table.specs.Meaning.{View, event_done, after}
 use Rattle.terminal_table.specs.Request.{Request}
-use Rattle.terminal_table.specs.Requests.{request_changes, request_done}
+use Rattle.terminal_table.specs.Modes.{Modes, with_last}
+use Rattle.terminal_table.specs.Requests.{request_changes, request_done, request_of, without_last}
 use Rattle.terminal_table.specs.Runs.{run_changes_of, run_step}
 use Rattle.terminal_table.specs.State.{State}
 use Rattle.terminal_table.proofs.JoinLemmas.{nothing_after}
 use Rattle.terminal_table.proofs.ListLemmas.{append_nil}
-use Rattle.terminal_table.proofs.RequestLemmas.{terminator_asks}
+use Rattle.terminal_table.proofs.RequestLemmas.{terminator_nothing, twice}
 use Rattle.terminal_table.proofs.TextLemmas.{prints, with_text, text_logged}
 
 no_more : (actions : List StreamAction) → actions ++ [] ≡ actions
@@ -75,7 +76,7 @@ module _ (f : List ℕ → ℕ) (state : State) (stream : List ℕ) where
   row_is exit w = absurd w.0
   row_is (command c) w =
       let s : State = row_done f (command c) state in
-      ap (λ (request : Option Request). at (request_done request s) stream) (terminator_asks s.modes s.screen)
+      ap (λ (request : Option Request). at (without_last (request_done f request s)) stream) (terminator_nothing s) ∙ ap (λ (t : State). at t stream) (twice (request_done f (request_of state.modes state.screen (command c)) state))
   row_is (csi a) w = refl
   row_is (esc e) w = refl
 
@@ -94,7 +95,7 @@ module _ (f : List ℕ → ℕ) (state : State) (stream : List ℕ) where
   row_logged_is (command c) w =
       let s : State = row_done f (command c) state in
       let own : List LogStep = row_logged f (command c) state in
-      ap (λ (request : Option Request). own ++ (map Logged (request_changes request s) ++ [])) (terminator_asks s.modes s.screen) ∙ append_nil own
+      ap (λ (request : Option Request). own ++ (map Logged (request_changes f request s) ++ [])) (terminator_nothing s) ∙ append_nil own
   row_logged_is (csi a) w = append_nil _
   row_logged_is (esc e) w = append_nil _
 

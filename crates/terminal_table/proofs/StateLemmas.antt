@@ -16,16 +16,16 @@ use Rattle.screen_effects.proofs.SizeLemmas.{effect_size}
 use Rattle.screen_effects.proofs.SoundLemmas.{new_is_sound, effect_is_sound, resized_is_sound}
 use Rattle.screen_effects.proofs.StrokeLaws.{new_display_is}
 use Rattle.terminal_table.specs.Modes.{AreNew, Modes, other_screen, resized_modes, resized_rows}
-use Rattle.terminal_table.specs.State.{CanBeShown, State, IsState, new_state_with}
+use Rattle.terminal_table.specs.State.{CanBeShown, HasLast, State, IsState, new_state_with}
 use Rattle.xterm_table.specs.Follows.{Follows}
 use Rattle.terminal_table.specs.Functions.{ControlFunction}
 use Rattle.terminal_table.specs.Runs.{screen_alone}
 use Rattle.terminal_table.specs.Steps.{step}
 use Rattle.terminal_table.specs.Changes.{changes, run_change}
 use Rattle.terminal_table.specs.Meaning.{with_size}
-use Rattle.terminal_table.specs.Turns.{IsRunText}
+use Rattle.terminal_table.specs.RunText.{IsRunText}
 use Rattle.terminal_table.proofs.RunLemmas.{run_turns}
-use Rattle.terminal_table.proofs.ScreenLemmas.{modes_still, new_can, plain_follows, some_follow}
+use Rattle.terminal_table.proofs.ScreenLemmas.{modes_still, new_can, new_last, plain_follows, some_follow}
 use Rattle.terminal_table.proofs.SoundLemmas.{changes_utf8, replay_sound}
 use Rattle.terminal_table.proofs.TurnLemmas.{function_turns}
 
@@ -62,13 +62,14 @@ step_size width_of function state h =
 -- ---- states
 
 -- a state of a size whose screen a lawful display with sound cells shows
-shown_is : (width_of : List ℕ → ℕ) (d : Display) (state : State) → width_of space ≡ 1 → IsDisplay d → IsSoundDisplay width_of d → d.screen ≡ state.screen → CanBeShown width_of state.screen state.modes → IsState width_of state
-shown_is width_of d state narrow h p e other = record {
+shown_is : (width_of : List ℕ → ℕ) (d : Display) (state : State) → width_of space ≡ 1 → IsDisplay d → IsSoundDisplay width_of d → d.screen ≡ state.screen → CanBeShown width_of state.screen state.modes → HasLast state.modes → IsState width_of state
+shown_is width_of d state narrow h p e other last = record {
   lawful = subst IsScreen e h.lawful;
   whole = subst (λ (s : Screen). All IsWhole s.rows) e h.whole;
   narrow = narrow;
   sound = subst (λ (s : Screen). All (IsSoundRow width_of) s.rows) e p;
   other = other;
+  last = last;
 }
 
 -- a screen into which changes turn that of a state
@@ -83,7 +84,7 @@ pub new_is : (width_of : List ℕ → ℕ) (modes : Option Modes) (width height 
 new_is width_of modes width height new narrow w t =
     let is = new_display_is width height w t in
     shown_is width_of (new_display width height) (new_state_with modes width height) narrow is (new_is_sound width_of width height narrow) refl
-    (new_can width_of (new_state_with modes width height).screen modes narrow is.lawful new)
+    (new_can width_of (new_state_with modes width height).screen modes narrow is.lawful new) (new_last modes new)
 
 pub step_is : (width_of : List ℕ → ℕ) (function : ControlFunction) (state : State) → IsState width_of state → IsState width_of (step function state)
 step_is width_of function state h =
@@ -93,7 +94,7 @@ step_is width_of function state h =
     let turns = function_turns width_of function state.saved before d in
     shown_is width_of (replay width_of before all) (step function state) h.narrow (replay_is width_of all before d)
     (replay_sound width_of h.narrow all before d (changes_utf8 function state.saved state.screen) h.sound) turns.screen
-    (other_still width_of all state (step function state).screen h turns.screen)
+    (other_still width_of all state (step function state).screen h turns.screen) h.last
 
 -- ---- a text of a run that is put, on a state with a screen alone
 
@@ -106,7 +107,7 @@ put_is width_of text s t h =
     let before : Display = display_on s in
     let d = display_on_is width_of (screen_alone s) h in
     shown_is width_of (effect width_of before (run_change text)) (screen_alone (put_run width_of s text)) h.narrow (effect_is width_of before (run_change text) d)
-    (effect_is_sound width_of before (run_change text) h.narrow d t.utf8 h.sound) (run_turns width_of text before t.printed).screen tt
+    (effect_is_sound width_of before (run_change text) h.narrow d t.utf8 h.sound) (run_turns width_of text before t.printed).screen tt tt
 
 -- another size of the other screen
 fitted_length : {A : Type 0} (other : A) (size : ℕ) (xs : List A) → length (fitted other size xs) ≡ size
@@ -131,8 +132,12 @@ size_is width_of width height state w t h =
     let before : Display = display_on state.screen in
     let is = resized_is width height before w t (display_on_is width_of state h) in
     shown_is width_of (resized width height before) (with_size width height state) h.narrow is (resized_is_sound width_of width height before h.narrow h.sound) refl
-    (by_modes state.modes is.lawful h.other)
+    (by_modes state.modes is.lawful h.other) (last_still state.modes h.last)
   where
+    last_still : (modes : Option Modes) → HasLast modes → HasLast (option_map (resized_modes width height) modes)
+    last_still None l = tt
+    last_still (Some modes) l = l
+
     by_modes : (modes : Option Modes) → IsScreen (resized_screen width height state.screen) → CanBeShown width_of state.screen modes → CanBeShown width_of (resized_screen width height state.screen) (option_map (resized_modes width height) modes)
     by_modes None new f = tt
     by_modes (Some modes) new f = resized_other width_of width height state.screen modes.other.rows h.narrow w t new f

@@ -1,7 +1,8 @@
 -- What the functions of the two screens leave: screens of the same size, lawful both of them; and what is logged leads to
 -- the one that is shown.
-use Rattle.std.proofs.Common.{◌≡◌, ℕ, ◌-◌, ◌<◌, ◌≤◌, Bool, true, false, List, [], length, map, replicate, refl, sym, ap, subst, ◌∙◌, arith}
+use Rattle.std.proofs.Common.{◌≡◌, ℕ, ◌-◌, ◌<◌, ◌≤◌, Bool, true, false, List, [], ◌∷◌, length, map, replicate, refl, sym, ap, subst, ◌∙◌, arith}
 use Rattle.std.specs.Prelude.{All, ◌==◌, ◌&&◌, min, nat_lt, Option, Some, None, option_map, if◌then◌else◌}
+use Rattle.cell_base.specs.Attributes.{plain}
 use Rattle.cell_base.specs.Row.{Row, space}
 use Rattle.cell_base.specs.Screen.{Screen, IsScreen, height}
 use Rattle.cell_base.specs.WholeRow.{IsWhole}
@@ -12,34 +13,35 @@ use Rattle.xterm_table.specs.Follows.{Follows}
 use Rattle.terminal_table.specs.Functions.{EraseDisplay}
 use Rattle.terminal_table.specs.Led.{led}
 use Rattle.terminal_table.specs.Modes.{Modes, Region, other_rows, other_screen, region_on, region_within}
-use Rattle.terminal_table.specs.Screens.{ScreenFunction, SaveCursor, RestoreCursor, ShowOther, ClearAndShowOther, SaveAndClear, SaveAndShowCleared, ShowAndRestore, Screens, cleared, cursor_restored, cursor_saved, modes_or_initial, other_shown, restored_column, restored_row, screens_after, screens_changes, screens_of, with_screens}
-use Rattle.terminal_table.specs.State.{CanBeShown, State, IsState}
+use Rattle.terminal_table.specs.Screens.{ScreenFunction, SaveCursor, RestoreCursor, ShowOther, ClearAndShowOther, SaveAndClear, SaveAndShowCleared, ShowAndRestore, SoftReset, PushTitle, PopTitle, Screens, cleared, cursor_restored, cursor_saved, modes_or_initial, other_shown, restored_column, restored_row, screens_after, screens_changes, screens_of, soft_reset, title_changes, title_popped, title_pushed, with_screens}
+use Rattle.terminal_table.specs.RunText.{IsRunText}
+use Rattle.terminal_table.specs.State.{CanBeShown, HasLast, State, IsState}
 use Rattle.terminal_table.specs.Steps.{cursor_to_restore, display_erased}
 use Rattle.terminal_table.specs.Turns.{Turns}
 use Rattle.terminal_table.proofs.ListLemmas.{map_same}
+use Rattle.terminal_table.proofs.RunLemmas.{no_text}
 use Rattle.terminal_table.proofs.ScreenLemmas.{can_still, plain_follows, some_follow}
 use Rattle.terminal_table.proofs.StateLemmas.{step_is, step_size}
 use Rattle.terminal_table.proofs.TurnLemmas.{screen_turns, step_turns}
 use Rattle.terminal_table.proofs.XtermLemmas.{led_turns}
 
--- screens of the size and with the title of a screen, lawful both of them
+-- screens of the size of a screen, lawful both of them
 pub record Leads (width_of : List ℕ → ℕ) (before : Screen) (at : Screens) : Type 0 where
   pub narrow : width_of space ≡ 1
   pub wide : at.screen.width ≡ before.width
   pub tall : height at.screen ≡ height before
-  pub title : at.screen.title ≡ before.title
-  pub visible : at.screen.visible ≡ before.visible
   pub lawful : IsScreen at.screen
   pub whole : All IsWhole at.screen.rows
   pub sound : All (IsSoundRow width_of) at.screen.rows
   pub other : Follows width_of at.screen (other_screen at.screen at.modes.other.rows)
+  pub last : IsRunText at.modes.last
 
 module _ (width_of : List ℕ → ℕ) (before : Screen) where
   some_rows : (s : Screen) → IsScreen s → 0 < height s
   some_rows s h = let inside = h.row_in in omega (arith, inside)
 
   saved_leads : (at : Screens) → Leads width_of before at → Leads width_of before (cursor_saved at)
-  saved_leads at h = record { narrow = h.narrow; wide = h.wide; tall = h.tall; title = h.title; visible = h.visible; lawful = h.lawful; whole = h.whole; sound = h.sound; other = h.other }
+  saved_leads at h = record { narrow = h.narrow; wide = h.wide; tall = h.tall; lawful = h.lawful; whole = h.whole; sound = h.sound; other = h.other; last = h.last }
 
   -- a screen with other rows, and the cursor elsewhere
   replaced : (s : Screen) (rows : List Row) (column : ℕ) → 0 < s.width → length rows ≡ height s → All (λ row. length row ≡ s.width) rows → column ≤ s.width → s.row < height s → IsScreen (record s { rows = rows; column = column })
@@ -56,12 +58,11 @@ module _ (width_of : List ℕ → ℕ) (before : Screen) where
         narrow = h.narrow;
         wide = h.wide;
         tall = tall ∙ h.tall;
-        title = h.title;
-        visible = h.visible;
         lawful = lawful;
         whole = h.other.whole;
         sound = h.other.sound;
         other = some_follow width_of new s.rows lawful (sym tall) h.lawful.even h.whole h.sound;
+        last = h.last;
       }
 
   -- the region is one of the screen
@@ -95,8 +96,6 @@ module _ (width_of : List ℕ → ℕ) (before : Screen) where
         narrow = h.narrow;
         wide = h.wide;
         tall = h.tall;
-        title = h.title;
-        visible = h.visible;
         lawful = record {
           wide_enough = h.lawful.wide_enough;
           even = h.lawful.even;
@@ -106,6 +105,7 @@ module _ (width_of : List ℕ → ℕ) (before : Screen) where
         whole = h.whole;
         sound = h.sound;
         other = can_still width_of s (cursor_restored at).screen at.modes.other.rows refl refl some h.other;
+        last = h.last;
       }
 
   -- a plain state of the screen that is shown
@@ -113,7 +113,7 @@ module _ (width_of : List ℕ → ℕ) (before : Screen) where
   shown_state at = record { screen = at.screen; saved = at.saved; replies = []; modes = None }
 
   pub shown_is : (at : Screens) → Leads width_of before at → IsState width_of (shown_state at)
-  shown_is at h = record { lawful = h.lawful; whole = h.whole; narrow = h.narrow; sound = h.sound; other = tt }
+  shown_is at h = record { lawful = h.lawful; whole = h.whole; narrow = h.narrow; sound = h.sound; other = tt; last = tt }
 
   cleared_leads : (at : Screens) → Leads width_of before at → Leads width_of before (cleared at)
   cleared_leads at h =
@@ -123,13 +123,37 @@ module _ (width_of : List ℕ → ℕ) (before : Screen) where
         narrow = h.narrow;
         wide = h.wide;
         tall = size.tall ∙ h.tall;
-        title = h.title;
-        visible = h.visible;
         lawful = is.lawful;
         whole = is.whole;
         sound = is.sound;
         other = can_still width_of at.screen (cleared at).screen at.modes.other.rows refl size.tall (some_rows (cleared at).screen is.lawful) h.other;
+        last = h.last;
       }
+
+  -- a screen that differs in its pen, its title or its cursor's visibility alone
+  same_leads : (at next : Screens) → Leads width_of before at → IsScreen next.screen → next.screen.width ≡ at.screen.width → next.screen.rows ≡ at.screen.rows → next.modes.other.rows ≡ at.modes.other.rows → next.modes.last ≡ at.modes.last → Leads width_of before next
+  same_leads at next h lawful wide rows others last =
+      let tall : height next.screen ≡ height at.screen = ap (λ (rs : List Row). length rs) rows in
+      record {
+        narrow = h.narrow;
+        wide = wide ∙ h.wide;
+        tall = tall ∙ h.tall;
+        lawful = lawful;
+        whole = subst (All IsWhole) (sym rows) h.whole;
+        sound = subst (All (IsSoundRow width_of)) (sym rows) h.sound;
+        other = subst (λ (rs : List Row). Follows width_of next.screen (other_screen next.screen rs)) (sym others)
+            (can_still width_of at.screen next.screen at.modes.other.rows wide tall (some_rows next.screen lawful) h.other);
+        last = subst IsRunText (sym last) h.last;
+      }
+
+  reset_leads : (at : Screens) → Leads width_of before at → Leads width_of before (soft_reset at)
+  reset_leads at h =
+      same_leads at (soft_reset at) h (record { wide_enough = h.lawful.wide_enough; even = h.lawful.even; column_in = h.lawful.column_in; row_in = h.lawful.row_in }) refl refl refl refl
+
+  popped_leads : (titles : List (List ℕ)) (at : Screens) → Leads width_of before at → Leads width_of before (title_popped titles at)
+  popped_leads [] at h = h
+  popped_leads (title ∷ titles) at h =
+      same_leads at (title_popped (title ∷ titles) at) h (record { wide_enough = h.lawful.wide_enough; even = h.lawful.even; column_in = h.lawful.column_in; row_in = h.lawful.row_in }) refl refl refl refl
 
   pub all_lead : (function : ScreenFunction) (at : Screens) → Leads width_of before at → Leads width_of before (screens_after function at)
   all_lead SaveCursor at h = saved_leads at h
@@ -139,6 +163,9 @@ module _ (width_of : List ℕ → ℕ) (before : Screen) where
   all_lead SaveAndClear at h = cleared_leads (cursor_saved at) (saved_leads at h)
   all_lead SaveAndShowCleared at h = cleared_leads (other_shown (cursor_saved at)) (shown_leads (cursor_saved at) (saved_leads at h))
   all_lead ShowAndRestore at h = restored_leads (other_shown at) (shown_leads at h)
+  all_lead SoftReset at h = reset_leads at h
+  all_lead PushTitle at h = same_leads at (title_pushed at) h h.lawful refl refl refl refl
+  all_lead PopTitle at h = popped_leads at.modes.titles at h
 
 -- ---- what is logged
 
@@ -156,26 +183,32 @@ screens_follow width_of function at h =
 
 -- what leads to the screen
 module _ (width_of : List ℕ → ℕ) (at : Screens) (d : Display) (h : Leads width_of at.screen at) (g : IsDisplay d) (e : d.screen ≡ at.screen) where
-  led_there : (function : ScreenFunction) → let new = (screens_after function at).screen in Turns d (replay width_of d (led at.screen new)) new
-  led_there function =
-      let after = all_lead width_of at.screen function at h in
+  led_there : (function : ScreenFunction) → let new = (screens_after function at).screen in new.title ≡ at.screen.title → Turns d (replay width_of d (led at.screen new)) new
+  led_there function title =
       let new : Screen = (screens_after function at).screen in
       subst (λ (s : Screen). Turns d (replay width_of d (led s new)) new) e
-      (led_turns width_of d new h.narrow g (subst (λ (s : Screen). Follows width_of s new) (sym e) (screens_follow width_of function at h)) (after.title ∙ sym (ap (λ (s : Screen). s.title) e)))
+      (led_turns width_of d new h.narrow g (subst (λ (s : Screen). Follows width_of s new) (sym e) (screens_follow width_of function at h)) (title ∙ sym (ap (λ (s : Screen). s.title) e)))
 
   erased_turns : Turns d (replay width_of d (screens_changes SaveAndClear at)) (display_erased at.screen)
   erased_turns = step_turns width_of EraseDisplay (shown_state width_of at.screen at) d (shown_is width_of at.screen at h) g e
 
   pub screens_turn : (function : ScreenFunction) → Turns d (replay width_of d (screens_changes function at)) (screens_after function at).screen
   screens_turn SaveCursor = screen_turns d d.screen at.screen e
-  screens_turn RestoreCursor = led_there RestoreCursor
-  screens_turn ShowOther = led_there ShowOther
-  screens_turn ClearAndShowOther = led_there ClearAndShowOther
+  screens_turn RestoreCursor = led_there RestoreCursor refl
+  screens_turn ShowOther = led_there ShowOther refl
+  screens_turn ClearAndShowOther = led_there ClearAndShowOther refl
   screens_turn SaveAndClear = erased_turns
   screens_turn SaveAndShowCleared =
       subst (λ (s : Screen). Turns d (replay width_of d (screens_changes SaveAndShowCleared at)) s)
       (sym (erased_same at.screen (other_rows at.screen at.modes.other.rows) h.other.tall)) erased_turns
-  screens_turn ShowAndRestore = led_there ShowAndRestore
+  screens_turn ShowAndRestore = led_there ShowAndRestore refl
+  screens_turn SoftReset = record { screen = ap (λ (s : Screen). record s { pen = plain; visible = true }) e; shape = refl; sizes = λ x. x }
+  screens_turn PushTitle = screen_turns d d.screen at.screen e
+  screens_turn PopTitle = by_titles at.modes.titles
+    where
+      by_titles : (titles : List (List ℕ)) → Turns d (replay width_of d (title_changes titles)) (title_popped titles at).screen
+      by_titles [] = screen_turns d d.screen at.screen e
+      by_titles (title ∷ titles) = record { screen = ap (λ (s : Screen). record s { title = title }) e; shape = refl; sizes = λ x. x }
 
 -- ---- states
 
@@ -184,14 +217,17 @@ state_leads width_of state h = record {
   narrow = h.narrow;
   wide = refl;
   tall = refl;
-  title = refl;
-  visible = refl;
   lawful = h.lawful;
   whole = h.whole;
   sound = h.sound;
   other = by_modes state.modes h.other;
+  last = last_of state.modes h.last;
 }
   where
+    last_of : (modes : Option Modes) → HasLast modes → IsRunText (modes_or_initial modes).last
+    last_of None l = no_text
+    last_of (Some modes) l = l
+
     by_modes : (modes : Option Modes) → CanBeShown width_of state.screen modes → Follows width_of state.screen (other_screen state.screen (modes_or_initial modes).other.rows)
     by_modes None f = plain_follows width_of state.screen h.narrow h.lawful
     by_modes (Some modes) f = f
@@ -199,8 +235,12 @@ state_leads width_of state h = record {
 pub switched_is : (width_of : List ℕ → ℕ) (function : ScreenFunction) (state : State) → IsState width_of state → IsState width_of (with_screens (screens_after function (screens_of state)) state)
 switched_is width_of function state h =
     let after = all_lead width_of state.screen function (screens_of state) (state_leads width_of state h) in
-    record { lawful = after.lawful; whole = after.whole; narrow = h.narrow; sound = after.sound; other = by_modes (screens_after function (screens_of state)) state.modes after.other }
+    record { lawful = after.lawful; whole = after.whole; narrow = h.narrow; sound = after.sound; other = by_modes (screens_after function (screens_of state)) state.modes after.other; last = last_of (screens_after function (screens_of state)) state.modes after.last }
   where
+    last_of : (next : Screens) (modes : Option Modes) → IsRunText next.modes.last → HasLast (option_map (λ _. next.modes) modes)
+    last_of next None l = tt
+    last_of next (Some modes) l = l
+
     by_modes : (next : Screens) (modes : Option Modes) → Follows width_of next.screen (other_screen next.screen next.modes.other.rows) → CanBeShown width_of next.screen (option_map (λ _. next.modes) modes)
     by_modes next None f = tt
     by_modes next (Some modes) f = f

@@ -98,6 +98,7 @@ xterm_is width_of function state h =
       narrow = h.narrow;
       sound = f.sound;
       other = modes_still width_of state.screen (xterm_screen function state.screen) state.modes f.wide tall (omega (arith, inside, tall)) h.other;
+      last = h.last;
     }
 
 -- ---- what is logged

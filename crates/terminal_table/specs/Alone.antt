@@ -22,9 +22,11 @@ alone action = Piece (stream_text (action ∷ [])) ∷ Look ∷ []
 -- the state after the action's row of the table; the characters of a print action are a run
 abbrev pub row_done : (List ℕ → ℕ) → StreamAction → State → State
 row_done width_of action state =
-    if is_print action then run_step width_of (printed action) state else acted action state
+    if is_print action then run_step width_of (printed action) state else acted width_of action state
 
 -- the changes that the action's row of the table logs
 abbrev pub row_logged : (List ℕ → ℕ) → StreamAction → State → List LogStep
 row_logged width_of action state =
-    map Logged (if is_print action then run_changes_of width_of (printed action) state else acted_changes action state)
+    map Logged
+    (if is_print action then run_changes_of width_of (printed action) state
+    else acted_changes width_of action state)

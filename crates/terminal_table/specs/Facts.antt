@@ -15,13 +15,13 @@ abbrev pub ActionsAreLogged : Type 0
 ActionsAreLogged =
     (width_of : List ℕ → ℕ) (action : StreamAction) (state : State) (display : Display) → IsState width_of state
     → IsDisplay display → display.screen ≡ state.screen
-    → Turns display (replay width_of display (acted_changes action state)) (acted action state).screen
+    → Turns display (replay width_of display (acted_changes width_of action state)) (acted width_of action state).screen
 
 -- an action leaves a lawful state
 abbrev pub ActionsKeepStates : Type 0
 ActionsKeepStates =
     (width_of : List ℕ → ℕ) (action : StreamAction) (state : State) → IsState width_of state
-    → IsState width_of (acted action state)
+    → IsState width_of (acted width_of action state)
 
 -- a terminal without modes stays one
 abbrev pub PlainTerminalsStay : Type 0

@@ -1,5 +1,8 @@
 pub mod Charsets
+pub mod Flags
+pub mod TabStops
 pub mod Modes
+pub mod RunText
 pub mod State
 pub mod Functions
 pub mod Steps
@@ -18,7 +21,11 @@ pub mod Led
 pub mod Xterm
 pub mod Screens
 pub mod Request
+pub mod Feeds
+pub mod ModeRequests
+pub mod OtherRequests
 pub mod XtermRequests
+pub mod Alignment
 pub mod Requests
 pub mod Runs
 pub mod Facts

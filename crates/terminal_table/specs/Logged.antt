@@ -18,7 +18,7 @@ run_logged width_of view =
 abbrev pub action_logged : (List ℕ → ℕ) → View → StreamAction → List LogStep
 action_logged width_of view action =
     if is_print action then []
-    else run_logged width_of view ++ map Logged (acted_changes action (settled width_of view).state)
+    else run_logged width_of view ++ map Logged (acted_changes width_of action (settled width_of view).state)
 
 -- what is logged for an event; a new size empties the log, and sets how many changes are due at most
 abbrev pub event_logged : (List ℕ → ℕ) → View → Event → List LogStep
@@ -41,8 +41,8 @@ logged width_of view history = events_logged width_of view (events view.stream h
 abbrev pub log_after : (List ℕ → ℕ) → View → Sized → History → Sized
 log_after width_of view log history = fold step_of_kept log (logged width_of view history)
 
--- the log of a history of a new plain terminal: its number counts the changes, and the new sizes that emptied a log that was
--- not empty
+-- the log of a history of a new plain terminal: its number counts the changes, and the new sizes that emptied a log
+-- that was not empty
 abbrev pub log_of : (List ℕ → ℕ) → ℕ → ℕ → History → Sized
 log_of width_of width height history =
     log_of_kept (most_due width height) (logged width_of (new_view width height) history)

@@ -32,7 +32,7 @@ settled width_of view =
 abbrev pub action_done : (List ℕ → ℕ) → View → StreamAction → View
 action_done width_of view action =
     if is_print action then record view { held = view.held ++ printed action }
-    else record (settled width_of view) { state = acted action (settled width_of view).state }
+    else record (settled width_of view) { state = acted width_of action (settled width_of view).state }
 
 -- screens of another size; saved cursors stay
 abbrev pub with_size : ℕ → ℕ → State → State

@@ -9,7 +9,8 @@ use Rattle.screen_difference.specs.Prints.{PlacedText, strokes_print, strokes_sc
 use Rattle.terminal_table.specs.Functions.{ControlFunction, LineFeed, NextRow, ReverseIndex, ScrollUp, ScrollDown}
 use Rattle.terminal_table.specs.History.{Event, Act, Looked, Resized, Forgot, History, Piece, Look, events}
 use Rattle.terminal_table.specs.Meaning.{View, settled, event_done}
-use Rattle.terminal_table.specs.Request.{Request, Table, Xterm, Sets, SetsAlone, Switches, Replies}
+use Rattle.terminal_table.specs.Request.{Request, Table, Xterm, Sets, SetsAlone, Switches, Repeats, Aligns, Replies}
+use Rattle.terminal_table.specs.Request.{Nothing}
 use Rattle.terminal_table.specs.Requests.{request_of}
 use Rattle.terminal_table.specs.Runs.{run_screen}
 use Rattle.terminal_table.specs.State.{State}
@@ -64,7 +65,7 @@ function_scrolls (ScrollDown n) screen = true
 function_scrolls _ screen = false
 
 -- whether what an action asks for scrolls, and whether an event by itself does; a function of xterm's own is logged as
--- what it changes, and not as a scroll
+-- what it changes, and not as a scroll; a cluster that is repeated may scroll
 abbrev pub request_scrolls : Option Request → Screen → Bool
 request_scrolls None screen = false
 request_scrolls (Some (Table function)) screen = function_scrolls function screen
@@ -72,7 +73,10 @@ request_scrolls (Some (Xterm function)) screen = false
 request_scrolls (Some (Sets setting function)) screen = function_scrolls function screen
 request_scrolls (Some (SetsAlone setting)) screen = false
 request_scrolls (Some (Switches function)) screen = false
+request_scrolls (Some (Repeats count)) screen = true
+request_scrolls (Some Aligns) screen = false
 request_scrolls (Some (Replies text)) screen = false
+request_scrolls (Some Nothing) screen = false
 
 abbrev pub event_scrolls : Event → State → Bool
 event_scrolls (Act action) state = request_scrolls (request_of state.modes state.screen action) state.screen

@@ -5,7 +5,8 @@ use Rattle.screen_effects.specs.Display.{Display, IsDisplay}
 use Rattle.screen_effects.specs.Effect.{replay}
 use Rattle.terminal_table.specs.Runs.{Running, screen_alone}
 use Rattle.terminal_table.specs.State.{IsState}
-use Rattle.terminal_table.specs.Turns.{Turns, IsRunText}
+use Rattle.terminal_table.specs.RunText.{IsRunText}
+use Rattle.terminal_table.specs.Turns.{Turns}
 
 -- a screen has the size and the pen of another
 pub record IsAlike (before after : Screen) : Type 0 where

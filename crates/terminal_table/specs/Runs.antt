@@ -1,19 +1,21 @@
--- The effect of a run of printed characters, and what is logged for it: its clusters (UAX 29) are put at the cursor, one
--- after another. Here the meaning of runs forks by the profile: under xterm something may be asked for before a cluster.
-use Rattle.std.specs.Prelude.{ℕ, ◌+◌, ◌&&◌, ◌||◌, Bool, not, nat_le, List, [], ◌∷◌, ◌++◌, fold, length, Option, Some}
-use Rattle.std.specs.Prelude.{None, if◌then◌else◌}
+-- The effect of a run of printed characters, and what is logged for it: its clusters (UAX 29) are put at the cursor,
+-- one after another. Here the meaning of runs forks by the profile: under xterm something may be asked for before a
+-- cluster.
+use Rattle.std.specs.Prelude.{ℕ, zero, suc, ◌+◌, ◌&&◌, ◌||◌, Bool, not, nat_le, List, [], ◌∷◌, ◌++◌, fold, length}
+use Rattle.std.specs.Prelude.{Option, Some, None, if◌then◌else◌}
 use Rattle.cell_base.specs.Cluster.{clusters}
 use Rattle.cell_base.specs.Screen.{Screen, cluster_columns, put, put_run}
 use Rattle.screen_change.specs.ChangeValue.{ChangeValue}
-use Rattle.terminal_table.specs.Changes.{run_change}
+use Rattle.terminal_table.specs.Changes.{changes, run_change}
 use Rattle.terminal_table.specs.Charsets.{charset_in_use, text_in}
 use Rattle.terminal_table.specs.Functions.{Moves, Right}
-use Rattle.terminal_table.specs.Modes.{Modes, region_on}
+use Rattle.terminal_table.specs.Modes.{Modes, region_on, with_last}
 use Rattle.terminal_table.specs.Request.{Request, Table, Xterm}
-use Rattle.terminal_table.specs.Requests.{request_changes, request_done}
+use Rattle.terminal_table.specs.Led.{led}
 use Rattle.terminal_table.specs.State.{State}
-use Rattle.terminal_table.specs.Xterm.{InsertCharacters}
-use Rattle.terminal_table.specs.XtermRequests.{feeds_plainly, next_line_request}
+use Rattle.terminal_table.specs.Steps.{screen_step}
+use Rattle.terminal_table.specs.Xterm.{InsertCharacters, xterm_screen}
+use Rattle.terminal_table.specs.Feeds.{feeds_plainly, next_line_request}
 
 -- ---- before a cluster is put under xterm
 
@@ -44,8 +46,8 @@ insert_request modes columns screen =
 
 -- ---- a run under xterm
 
--- A run on its way: the changes so far, the screen that they lead to, the clusters after it that are put plainly, joined,
--- and the screen with these.
+-- A run on its way: the changes so far, the screen that they lead to, the clusters after it that are put plainly,
+-- joined, and the screen with these.
 pub record Running : Type 0 where
   pub changes : List ChangeValue
   pub led : Screen
@@ -70,12 +72,22 @@ text_put width_of run =
 abbrev pub screen_alone : Screen → State
 screen_alone screen = record { screen = screen; saved = None; replies = []; modes = None }
 
+-- the screen after what is asked for there, a function of the table or one that only xterm has; and its changes
+abbrev pub screen_asked : Option Request → Screen → Screen
+screen_asked (Some (Table function)) screen = screen_step function None screen
+screen_asked (Some (Xterm function)) screen = xterm_screen function screen
+screen_asked _ screen = screen
+
+abbrev pub changes_asked : Option Request → Screen → List ChangeValue
+changes_asked (Some (Table function)) screen = changes function None screen
+changes_asked (Some (Xterm function)) screen = led screen (xterm_screen function screen)
+changes_asked _ screen = []
+
 -- what is asked for is done
 abbrev pub asked : Option Request → Running → Running
 asked request run =
-    let state = screen_alone run.led in
-    let screen = (request_done request state).screen in
-    record { changes = run.changes ++ request_changes request state; led = screen; text = []; screen = screen }
+    let screen = screen_asked request run.led in
+    record { changes = run.changes ++ changes_asked request run.led; led = screen; text = []; screen = screen }
 
 abbrev pub prepared : Modes → ℕ → Running → Running
 prepared modes columns run =
@@ -115,10 +127,39 @@ abbrev pub run_changes : Option Modes → (List ℕ → ℕ) → Screen → List
 run_changes None width_of screen text = run_change text ∷ []
 run_changes (Some modes) width_of screen text = (run_done modes width_of screen (text_as modes text)).changes
 
+-- the modes after it: they keep it as the run before
+abbrev pub run_modes : List ℕ → Option Modes → Option Modes
+run_modes text None = None
+run_modes text (Some modes) = Some (with_last (text_as modes text) modes)
+
 abbrev pub run_step : (List ℕ → ℕ) → List ℕ → State → State
 run_step width_of text state =
-    record state { screen = run_screen state.modes width_of state.screen text }
+    record state {
+      screen = run_screen state.modes width_of state.screen text;
+      modes = run_modes text state.modes;
+    }
 
 -- the changes of a run that ends on a state
 abbrev pub run_changes_of : (List ℕ → ℕ) → List ℕ → State → List ChangeValue
 run_changes_of width_of text state = run_changes state.modes width_of state.screen text
+
+-- ---- a cluster that is repeated (REP, ECMA-48 8.3.103)
+
+-- the last cluster of a run; none, where the run is empty
+abbrev pub last_cluster : List ℕ → List ℕ
+last_cluster text = fold (λ _ cluster. cluster) [] (clusters text)
+
+-- that of the run before, put so many times, each time as a run of its own: the screen after it, and the changes
+abbrev pub put_again : Modes → (List ℕ → ℕ) → Screen → Running
+put_again modes width_of screen = run_done modes width_of screen (last_cluster modes.last)
+
+abbrev pub screen_repeated : Modes → (List ℕ → ℕ) → ℕ → Screen → Screen
+screen_repeated modes width_of zero screen = screen
+screen_repeated modes width_of (suc count) screen =
+    screen_repeated modes width_of count (put_again modes width_of screen).led
+
+abbrev pub changes_repeated : Modes → (List ℕ → ℕ) → ℕ → Screen → List ChangeValue
+changes_repeated modes width_of zero screen = []
+changes_repeated modes width_of (suc count) screen =
+    let put = put_again modes width_of screen in
+    put.changes ++ changes_repeated modes width_of count put.led

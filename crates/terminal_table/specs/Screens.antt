@@ -1,16 +1,21 @@
--- Saved cursors of the profile xterm, and its two screens, the normal one and the alternate one, of which one is shown.
-use Rattle.std.specs.Prelude.{ℕ, ◌-◌, ◌==◌, ◌&&◌, Bool, true, false, not, nat_lt, min, List, [], Option, Some, None}
-use Rattle.std.specs.Prelude.{option_map, if◌then◌else◌}
+-- Saved cursors of the profile xterm; its two screens, the normal one and the alternate one, of which one is shown; the
+-- soft reset; and titles that are pushed.
+use Rattle.std.specs.Prelude.{ℕ, ◌-◌, ◌==◌, ◌&&◌, Bool, true, false, not, nat_lt, min, List, [], ◌∷◌, take, Option}
+use Rattle.std.specs.Prelude.{Some, None, option_map, if◌then◌else◌}
+use Rattle.cell_base.specs.declared.attributes.CursorVisibility.TheVariants.{Visible}
+use Rattle.cell_base.specs.Attributes.{plain}
 use Rattle.cell_base.specs.Screen.{Screen, height}
-use Rattle.screen_change.specs.ChangeValue.{ChangeValue}
+use Rattle.screen_change.specs.ChangeValue.{ChangeValue, AllAttributes, CursorVisibility}
+use Rattle.screen_change.specs.ChangeValue as change
 use Rattle.terminal_table.specs.Changes.{changes}
 use Rattle.terminal_table.specs.Functions as table
+use Rattle.terminal_table.specs.Charsets.{initial_charsets}
 use Rattle.terminal_table.specs.Led.{led}
-use Rattle.terminal_table.specs.Modes.{Modes, Region, SavedCursor, initial_modes, other_rows, region_on}
+use Rattle.terminal_table.specs.Modes.{Modes, Region, SavedCursor, initial_modes, other_rows, region_on, unsaved_modes}
 use Rattle.terminal_table.specs.State.{State}
 use Rattle.terminal_table.specs.Steps.{active_column, cursor_to_restore, display_erased}
 
--- what saves and restores cursors, and changes the screen that is shown
+-- what saves and restores cursors, changes the screen that is shown, and what else changes both it and the modes
 pub data ScreenFunction : Type 0 where
   SaveCursor : ScreenFunction  -- DECSC, SCOSC, DECSET 1048
   RestoreCursor : ScreenFunction  -- DECRC, SCORC, DECRST 1048; DECRST 1049 on the normal screen
@@ -19,6 +24,9 @@ pub data ScreenFunction : Type 0 where
   SaveAndClear : ScreenFunction  -- DECSET 1049 on the alternate screen
   SaveAndShowCleared : ScreenFunction  -- DECSET 1049 on the normal screen
   ShowAndRestore : ScreenFunction  -- DECRST 1049 on the alternate screen
+  SoftReset : ScreenFunction  -- DECSTR
+  PushTitle : ScreenFunction  -- CSI 22 t
+  PopTitle : ScreenFunction  -- CSI 23 t
 
 -- the screen shown, the cursor that was saved on it, and the modes
 pub record Screens : Type 0 where
@@ -83,6 +91,37 @@ other_shown at =
 abbrev pub cleared : Screens → Screens
 cleared at = record at { screen = display_erased at.screen }
 
+-- DECSTR: a plain pen, a visible cursor, no cursor that was saved on the screen shown, and modes of which these are as
+-- those of a new terminal
+abbrev pub soft_reset : Screens → Screens
+soft_reset at = record {
+  screen = record at.screen { pen = plain; visible = true };
+  saved = None;
+  modes = record at.modes {
+    region = None;
+    origin = false;
+    insert = false;
+    autowrap = true;
+    charsets = initial_charsets;
+    with_cursor = unsaved_modes;
+    flags = record at.modes.flags { application_cursor = false; application_keypad = false };
+  };
+}
+
+-- titles that were pushed, the last one first: ten at most
+abbrev pub title_pushed : Screens → Screens
+title_pushed at =
+    record at { modes = record at.modes { titles = take 10 (at.screen.title ∷ at.modes.titles) } }
+
+abbrev pub title_popped : List (List ℕ) → Screens → Screens
+title_popped [] at = at
+title_popped (title ∷ titles) at =
+    record at { screen = record at.screen { title = title }; modes = record at.modes { titles = titles } }
+
+abbrev pub title_changes : List (List ℕ) → List ChangeValue
+title_changes [] = []
+title_changes (title ∷ titles) = change.Title title ∷ []
+
 -- what a function leaves
 abbrev pub screens_after : ScreenFunction → Screens → Screens
 screens_after SaveCursor at = cursor_saved at
@@ -92,12 +131,19 @@ screens_after ClearAndShowOther at = other_shown (cleared at)
 screens_after SaveAndClear at = cleared (cursor_saved at)
 screens_after SaveAndShowCleared at = cleared (other_shown (cursor_saved at))
 screens_after ShowAndRestore at = cursor_restored (other_shown at)
+screens_after SoftReset at = soft_reset at
+screens_after PushTitle at = title_pushed at
+screens_after PopTitle at = title_popped at.modes.titles at
 
--- what is logged for it: nothing, or an erasure of the screen, or what leads to the screen that is shown then
+-- what is logged for it: nothing, or an erasure of the screen, the pen and the cursor's visibility, or a title; or what
+-- leads to the screen that is shown then
 abbrev pub screens_changes : ScreenFunction → Screens → List ChangeValue
 screens_changes SaveCursor at = []
 screens_changes SaveAndClear at = changes table.EraseDisplay at.saved at.screen
 screens_changes SaveAndShowCleared at = changes table.EraseDisplay at.saved at.screen
+screens_changes SoftReset at = AllAttributes plain ∷ CursorVisibility Visible ∷ []
+screens_changes PushTitle at = []
+screens_changes PopTitle at = title_changes at.modes.titles
 screens_changes function at = led at.screen (screens_after function at).screen
 
 -- ---- of states

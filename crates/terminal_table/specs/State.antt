@@ -6,10 +6,11 @@ use Rattle.cell_base.specs.Screen.{Screen, IsScreen, new_screen}
 use Rattle.cell_base.specs.WholeRow.{IsWhole}
 use Rattle.screen_effects.specs.WrittenCells.{IsSoundRow}
 use Rattle.terminal_table.specs.Modes.{Modes, SavedCursor, other_screen}
+use Rattle.terminal_table.specs.RunText.{IsRunText}
 use Rattle.xterm_table.specs.Follows.{Follows}
 
--- the screen with its cursor, pen and title; the cursor that was saved, if one was; the replies that were not yet taken;
--- and the modes of the profile xterm, none on a plain terminal
+-- the screen with its cursor, pen and title; the cursor that was saved, if one was; the replies that were not yet
+-- taken; and the modes of the profile xterm, none on a plain terminal
 pub record State : Type 0 where
   pub screen : Screen
   pub saved : Option SavedCursor
@@ -36,11 +37,17 @@ abbrev pub CanBeShown : (List ℕ → ℕ) → Screen → Option Modes → Type 
 CanBeShown width_of screen None = ⊤
 CanBeShown width_of screen (Some modes) = Follows width_of screen (other_screen screen modes.other.rows)
 
+-- the run before, if the profile keeps it, is such a text
+abbrev pub HasLast : Option Modes → Type 0
+HasLast None = ⊤
+HasLast (Some modes) = IsRunText modes.last
+
 -- the invariant of states: the screen is lawful, its rows are whole, and each of their cells has a sound text; a space
--- takes one column; and the other screen is such a one
+-- takes one column; the other screen is such a one; and the run before is a text
 pub record IsState (width_of : List ℕ → ℕ) (state : State) : Type 0 where
   pub lawful : IsScreen state.screen
   pub whole : All IsWhole state.screen.rows
   pub narrow : width_of space ≡ 1
   pub sound : All (IsSoundRow width_of) state.screen.rows
   pub other : CanBeShown width_of state.screen state.modes
+  pub last : HasLast state.modes

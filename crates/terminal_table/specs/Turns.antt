@@ -1,8 +1,5 @@
 -- What the laws say of displays: that one turns into another, and what is replayed for an event.
-use Rattle.std.specs.Prelude.{◌≡◌, ℕ, ◌<◌, ⊤, List, [], ◌∷◌, All, IsTrue, not}
-use Rattle.std.specs.List.{list_all}
-use Rattle.std.specs.Char.{is_ascii_control}
-use Rattle.std.specs.Str.{IsUtf8}
+use Rattle.std.specs.Prelude.{◌≡◌, ℕ, ◌<◌, ⊤, List, [], ◌∷◌, All}
 use Rattle.cell_base.specs.declared.attributes.LineAttribute.{LineAttribute}
 use Rattle.cell_base.specs.declared.attributes.LineAttribute.TheVariants.{SingleWidthLine}
 use Rattle.cell_base.specs.Screen.{Screen}
@@ -14,6 +11,7 @@ use Rattle.escape_stream.specs.StreamActions.{newly_decided_actions}
 use Rattle.screen_effects.specs.Display.{Display}
 use Rattle.screen_effects.specs.Effect.{replay}
 use Rattle.screen_effects.specs.Resize.{resized}
+use Rattle.terminal_table.specs.RunText.{IsRunText}
 use Rattle.terminal_table.specs.State.{IsState}
 use Rattle.terminal_table.specs.History.{History, Piece, Look, Resize, Forget, Event, Act, Looked, Resized, Forgot}
 use Rattle.terminal_table.specs.Meaning.{View, event_done}
@@ -29,15 +27,6 @@ pub record Turns (before after : Display) (shown : Screen) : Type 0 where
   pub screen : after.screen ≡ shown
   pub shape : after.shape ≡ before.shape
   pub sizes : AreSingle before.sizes → AreSingle after.sizes
-
--- no C0 control and no DEL
-abbrev pub IsPrinted : List ℕ → Type 0
-IsPrinted text = IsTrue (list_all (λ b. not (is_ascii_control b)) text)
-
--- a text that a run has: UTF-8, with no C0 control and no DEL
-pub record IsRunText (text : List ℕ) : Type 0 where
-  pub utf8 : IsUtf8 text
-  pub printed : IsPrinted text
 
 -- the invariant of views: the state is lawful, and the held run is UTF-8 without controls
 pub record IsView (width_of : List ℕ → ℕ) (view : View) : Type 0 where

@@ -1,14 +1,14 @@
 -- What the profile xterm has for an action, where that differs from the table. Moves, and LF, NEL, RI, SU, SD, EL 0 and
 -- ED 0 where they do what they do in the table, are asked for as the table's: so a viewer is sent what it is sent for a
 -- plain terminal.
-use Rattle.std.specs.Prelude.{ℕ, ◌+◌, ◌-◌, ◌==◌, ◌&&◌, ◌||◌, Bool, true, false, not, nat_le, nat_lt, min, Option, Some, None}
-use Rattle.std.specs.Prelude.{if◌then◌else◌}
-use Rattle.cell_base.specs.declared.color.ColorAttribute.{ColorAttribute}
-use Rattle.cell_base.specs.declared.color.ColorAttribute.TheVariants.{Default}
+use Rattle.std.specs.Prelude.{ℕ, ◌+◌, ◌-◌, ◌*◌, ◌==◌, ◌&&◌, ◌||◌, Bool, true, false, not, nat_le, nat_lt, min}
+use Rattle.std.specs.Prelude.{length, Option, Some, None, if◌then◌else◌}
 use Rattle.cell_base.specs.Screen.{Screen, height}
 use Rattle.csi_codec.specs.Actions as codec
 use Rattle.csi_codec.specs.declared.cursors.Cursor.{Cursor}
 use Rattle.csi_codec.specs.declared.cursors.Cursor.TheVariants as cursor
+use Rattle.csi_codec.specs.declared.cursors.TabulationClear.{TabulationClear}
+use Rattle.csi_codec.specs.declared.cursors.TabulationClear.TheVariants as clear
 use Rattle.csi_codec.specs.declared.edits.Edit.{Edit}
 use Rattle.csi_codec.specs.declared.edits.Edit.TheVariants as edit
 use Rattle.csi_codec.specs.declared.edits.EraseInDisplay.TheVariants as display
@@ -16,50 +16,27 @@ use Rattle.csi_codec.specs.declared.edits.EraseInLine.TheVariants as line
 use Rattle.csi_codec.specs.declared.escapes.Esc.TheVariants as esc
 use Rattle.csi_codec.specs.declared.escapes.EscCode.{EscCode}
 use Rattle.csi_codec.specs.declared.escapes.EscCode.TheVariants as code
-use Rattle.csi_codec.specs.declared.modes.DecPrivateMode.TheVariants as private
-use Rattle.csi_codec.specs.declared.modes.DecPrivateModeCode.{DecPrivateModeCode}
-use Rattle.csi_codec.specs.declared.modes.DecPrivateModeCode.TheVariants as dec
-use Rattle.csi_codec.specs.declared.modes.Mode.{Mode}
-use Rattle.csi_codec.specs.declared.modes.Mode.TheVariants as mode
-use Rattle.csi_codec.specs.declared.modes.TerminalMode.TheVariants as ansi
-use Rattle.csi_codec.specs.declared.modes.TerminalModeCode.TheVariants as terminal
 use Rattle.escape_stream.specs.StreamAction.{StreamAction}
 use Rattle.escape_stream.specs.StreamAction as stream
 use Rattle.terminal_table.specs.Functions as table
 use Rattle.terminal_table.specs.Modes.{Modes, Region, region_on}
-use Rattle.terminal_table.specs.Request.{Request, Table, Xterm, Sets, SetsAlone, Switches, Replies, ToInitial, ToRegion}
-use Rattle.terminal_table.specs.Request.{ToOrigin, ToInsert, ToAutowrap, ToFirst, ToSecond, ToShift}
+use Rattle.terminal_table.specs.ModeRequests.{home_function, mode_request}
+use Rattle.terminal_table.specs.OtherRequests.{device_request, other_request, primary_reply}
+use Rattle.terminal_table.specs.Request.{Request, Table, Xterm, Sets, SetsAlone, Switches, Repeats, Aligns, Replies}
+use Rattle.terminal_table.specs.Request.{Nothing, ToReset, ToRegion, ToStop, ToNoStops, ToFirst, ToSecond, ToShift}
+use Rattle.terminal_table.specs.Request.{ToFlag, ToStyle}
 use Rattle.terminal_table.specs.Charsets.{Ascii, British, Graphics}
+use Rattle.terminal_table.specs.Feeds.{line_feed_request, next_line_request, scrolls_plainly}
 use Rattle.terminal_table.specs.Screens as screens
-use Rattle.terminal_table.specs.Screens.{ScreenFunction, is_pending}
+use Rattle.terminal_table.specs.Screens.{is_pending}
 use Rattle.terminal_table.specs.Steps.{active_column, position_text}
+use Rattle.terminal_table.specs.TabStops.{stops_back, stops_on}
+use Rattle.terminal_table.specs.declared.flags.Flag.TheVariants.{ApplicationKeypad}
 use Rattle.terminal_table.specs.Xterm as own
 use Rattle.terminal_table.specs.Xterm.{XtermFunction}
 use Rattle.xterm_table.specs.RowMoves.{is_between}
 
-abbrev pub is_default : ColorAttribute → Bool
-is_default Default = true
-is_default _ = false
-
--- a scroll of the region is one of the table: it moves all rows, and the blanks that come have the default background
-abbrev pub scrolls_plainly : Region → Screen → Bool
-scrolls_plainly region screen =
-    region.top == 0 && region.bottom == height screen - 1 && is_default screen.pen.background
-
--- ---- the next row, and the row before; the region scrolls at its margins
-
--- the table's move to the next row leads to the same one: it scrolls likewise, or neither scrolls
-abbrev pub feeds_plainly : Region → Screen → Bool
-feeds_plainly region screen =
-    if screen.row == region.bottom then scrolls_plainly region screen else nat_lt screen.row (height screen - 1)
-
-abbrev pub line_feed_request : Region → Screen → Request  -- LF, VT, FF, IND
-line_feed_request region screen =
-    if not (is_pending screen) && feeds_plainly region screen then Table table.LineFeed else Xterm (own.LineFeed region)
-
-abbrev pub next_line_request : Region → Screen → Request  -- NEL
-next_line_request region screen =
-    if feeds_plainly region screen then Table table.NextRow else Xterm (own.NextLine region)
+-- ---- the row before; the region scrolls at its top
 
 abbrev pub reverse_index_request : Region → Screen → Request  -- RI
 reverse_index_request region screen =
@@ -67,6 +44,23 @@ reverse_index_request region screen =
     (if not (is_pending screen) && scrolls_plainly region screen then Table table.ReverseIndex
     else Xterm (own.ReverseIndex region))
     else Table (table.Moves (table.Up 1))
+
+-- ---- tab stops
+
+abbrev pub tab_request : Modes → Screen → ℕ → Request  -- HT, CHT: nothing, where a wrap is pending
+tab_request modes screen n =
+    if is_pending screen then Nothing
+    else Table (table.Moves (table.ToColumn (stops_on modes.stops screen.width screen.column n + 1)))
+
+abbrev pub tab_back_request : Modes → Screen → ℕ → Request  -- CBT
+tab_back_request modes screen n =
+    Table (table.Moves (table.ToColumn (stops_back modes.stops (active_column screen) n + 1)))
+
+abbrev pub clear_request : Screen → TabulationClear → Option Request  -- TBC
+clear_request screen clear.ClearCharacterTabStopAtActivePosition =
+    Some (SetsAlone (ToStop (active_column screen) false))
+clear_request screen clear.ClearAllCharacterTabStops = Some (SetsAlone (ToNoStops screen.width))
+clear_request screen _ = None
 
 -- ---- scrolls, and lines
 
@@ -122,15 +116,6 @@ abbrev pub report_request : Modes → Region → Screen → Option Request
 report_request modes region screen =
     where_origin modes.origin (Replies (position_text (screen.row - region.top) (active_column screen)))
 
--- the cursor at home, where lines count from the region's top, or from the screen's
-abbrev pub home_function : Bool → Region → table.ControlFunction
-home_function true region = table.Moves (table.ToPosition (region.top + 1) 1)
-home_function false region = table.Moves (table.ToPosition 1 1)
-
--- DECSET 6 and DECRST 6: the cursor goes home
-abbrev pub origin_request : Bool → Region → Request
-origin_request origin region = Sets (ToOrigin origin) (home_function origin region)
-
 -- ---- margins
 
 -- DECSTBM: the region from the line `top` to the line `bottom`, counted from 1, or to the last line; it has at least
@@ -141,45 +126,13 @@ margins_request modes screen top bottom =
     let region : Region = record { top = top - 1; bottom = last - 1 } in
     if nat_lt top last then Some (Sets (ToRegion region) (home_function modes.origin region)) else None
 
--- ---- screens: the alternate one is shown, or the normal one, if it isn't yet
-
-abbrev pub where_shown : Bool → ScreenFunction → Option Request
-where_shown true function = Some (Switches function)
-where_shown false function = None
-
--- DECSET 1049 and DECRST 1049
-abbrev pub alternate_function : Bool → ScreenFunction  -- whether it is shown before
-alternate_function true = screens.SaveAndClear
-alternate_function false = screens.SaveAndShowCleared
-
-abbrev pub normal_function : Bool → ScreenFunction  -- whether the alternate one is
-normal_function true = screens.ShowAndRestore
-normal_function false = screens.RestoreCursor
-
--- modes of xterm that are set, and reset (xterm: DEC Private Mode Set, and Reset)
-abbrev pub set_request : Modes → Region → DecPrivateModeCode → Option Request
-set_request modes region dec.OriginMode = Some (origin_request true region)
-set_request modes region dec.AutoWrap = Some (SetsAlone (ToAutowrap true))
-set_request modes region dec.EnableAlternateScreen = where_shown (not modes.alternate) screens.ShowOther
-set_request modes region dec.OptEnableAlternateScreen = where_shown (not modes.alternate) screens.ShowOther
-set_request modes region dec.SaveCursor = Some (Switches screens.SaveCursor)
-set_request modes region dec.ClearAndEnableAlternateScreen = Some (Switches (alternate_function modes.alternate))
-set_request modes region _ = None
-
-abbrev pub reset_request : Modes → Region → DecPrivateModeCode → Option Request
-reset_request modes region dec.OriginMode = Some (origin_request false region)
-reset_request modes region dec.AutoWrap = Some (SetsAlone (ToAutowrap false))
-reset_request modes region dec.EnableAlternateScreen = where_shown modes.alternate screens.ShowOther
-reset_request modes region dec.OptEnableAlternateScreen = where_shown modes.alternate screens.ClearAndShowOther
-reset_request modes region dec.SaveCursor = Some (Switches screens.RestoreCursor)
-reset_request modes region dec.ClearAndEnableAlternateScreen = Some (Switches (normal_function modes.alternate))
-reset_request modes region _ = None
-
 -- ---- all actions
 
-abbrev pub control_request : Region → Screen → ℕ → Option Request
-control_request region screen number =
-    if number == 10 || number == 11 || number == 12 then Some (line_feed_request region screen)
+abbrev pub control_request : Modes → Region → Screen → ℕ → Option Request
+control_request modes region screen number =
+    if number == 9 then Some (tab_request modes screen 1)  -- HT
+    else if number == 10 || number == 11 || number == 12 then  -- LF, VT, FF
+    Some (if modes.newline then next_line_request region screen else line_feed_request region screen)
     else if number == 14 then Some (SetsAlone (ToShift true))  -- SO
     else if number == 15 then Some (SetsAlone (ToShift false))  -- SI
     else None
@@ -194,10 +147,18 @@ designation_request code.UkCharacterSetG1 = Some (SetsAlone (ToSecond British))
 designation_request code.AsciiCharacterSetG1 = Some (SetsAlone (ToSecond Ascii))
 designation_request _ = None
 
--- another set, which is taken for ASCII, after ESC ( or ESC )
-abbrev pub other_designation : Option ℕ → Option Request
-other_designation None = None
-other_designation (Some intermediate) =
+-- memory lock: ESC l takes the rows above the cursor's out of the region, ESC m takes them in again (xterm)
+abbrev pub lock_request : Region → Screen → ℕ → Option Request
+lock_request region screen final =
+    if final == 0x6C && nat_lt screen.row region.bottom then
+    Some (SetsAlone (ToRegion (record region { top = screen.row })))
+    else if final == 0x6D then Some (SetsAlone (ToRegion (record region { top = 0 })))
+    else None
+
+-- a pair without a name: memory lock; or another set, which is taken for ASCII, after ESC ( or ESC )
+abbrev pub other_escape : Region → Screen → Option ℕ → ℕ → Option Request
+other_escape region screen None final = lock_request region screen final
+other_escape region screen (Some intermediate) final =
     if intermediate == 0x28 then Some (SetsAlone (ToFirst Ascii))
     else if intermediate == 0x29 then Some (SetsAlone (ToSecond Ascii))
     else None
@@ -206,9 +167,14 @@ abbrev pub escape_request : Region → Screen → EscCode → Option Request
 escape_request region screen code.Index = Some (line_feed_request region screen)
 escape_request region screen code.NextLine = Some (next_line_request region screen)
 escape_request region screen code.ReverseIndex = Some (reverse_index_request region screen)
-escape_request region screen code.FullReset = Some (Sets ToInitial table.FullReset)
+escape_request region screen code.HorizontalTabSet = Some (SetsAlone (ToStop (active_column screen) true))
+escape_request region screen code.FullReset = Some (Sets ToReset table.FullReset)
 escape_request region screen code.DecSaveCursorPosition = Some (Switches screens.SaveCursor)  -- DECSC
 escape_request region screen code.DecRestoreCursorPosition = Some (Switches screens.RestoreCursor)  -- DECRC
+escape_request region screen code.DecScreenAlignmentDisplay = Some Aligns  -- DECALN
+escape_request region screen code.DecApplicationKeyPad = Some (SetsAlone (ToFlag ApplicationKeypad true))  -- DECKPAM
+escape_request region screen code.DecNormalKeyPad = Some (SetsAlone (ToFlag ApplicationKeypad false))  -- DECKPNM
+escape_request region screen code.ReturnTerminalId = Some (Replies primary_reply)  -- DECID
 escape_request region screen known = designation_request known
 
 -- moves by rows
@@ -235,41 +201,52 @@ cursor_request modes region screen (cursor.SetTopAndBottomMargins top bottom) =
 cursor_request modes region screen cursor.SaveCursor = Some (Switches screens.SaveCursor)  -- SCOSC
 cursor_request modes region screen cursor.RestoreCursor = Some (Switches screens.RestoreCursor)  -- SCORC
 cursor_request modes region screen cursor.RequestActivePositionReport = report_request modes region screen
+cursor_request modes region screen (cursor.ForwardTabulation n) = Some (tab_request modes screen n)
+cursor_request modes region screen (cursor.BackwardTabulation n) = Some (tab_back_request modes screen n)
+cursor_request modes region screen (cursor.TabulationClear which) = clear_request screen which
+cursor_request modes region screen (cursor.CursorStyle style) = Some (SetsAlone (ToStyle style))  -- DECSCUSR
 cursor_request modes region screen value = rows_request modes region screen value
 
-abbrev pub edit_request : Region → Screen → Edit → Option Request
-edit_request region screen (edit.EraseCharacter n) = Some (Xterm (own.EraseCharacters n))  -- ECH, ECMA-48 8.3.38
-edit_request region screen (edit.InsertCharacter n) = Some (Xterm (own.InsertCharacters n))  -- ICH, 8.3.64
-edit_request region screen (edit.DeleteCharacter n) = Some (Xterm (own.DeleteCharacters n))  -- DCH, 8.3.26
-edit_request region screen (edit.EraseInLine line.EraseToStartOfLine) = Some (Xterm own.EraseToStartOfLine)  -- EL 1
-edit_request region screen (edit.EraseInLine line.EraseToEndOfLine) =  -- EL 0, 8.3.41
-    where_pending screen own.EraseToEndOfLine
-edit_request region screen (edit.EraseInDisplay display.EraseToStartOfDisplay) =  -- ED 1
-    Some (Xterm own.EraseToStartOfDisplay)
-edit_request region screen (edit.EraseInDisplay display.EraseToEndOfDisplay) =  -- ED 0, 8.3.39
-    where_pending screen own.EraseToEndOfDisplay
-edit_request region screen (edit.ScrollUp n) = Some (scroll_up_request region screen n)
-edit_request region screen (edit.ScrollDown n) = Some (scroll_down_request region screen n)
-edit_request region screen (edit.InsertLine n) =  -- IL, 8.3.67
-    where_between region screen (Xterm (own.InsertLines region n))
-edit_request region screen (edit.DeleteLine n) =  -- DL, 8.3.32
-    where_between region screen (Xterm (own.DeleteLines region n))
-edit_request region screen _ = None
+-- REP: the last cluster of the run before is put so many times more, at most once for each column of each row
+abbrev pub repeat_request : Modes → Screen → ℕ → Option Request
+repeat_request modes screen n =
+    if length modes.last == 0 then None
+    else Some (Repeats (min n (screen.width * height screen)))
 
-abbrev pub mode_request : Modes → Region → Mode → Option Request
-mode_request modes region (mode.SetDecPrivateMode (private.Code known)) = set_request modes region known
-mode_request modes region (mode.ResetDecPrivateMode (private.Code known)) = reset_request modes region known
-mode_request modes region (mode.SetMode (ansi.Code terminal.Insert)) = Some (SetsAlone (ToInsert true))  -- IRM
-mode_request modes region (mode.ResetMode (ansi.Code terminal.Insert)) = Some (SetsAlone (ToInsert false))
-mode_request modes region _ = None
+abbrev pub edit_request : Modes → Region → Screen → Edit → Option Request
+edit_request modes region screen (edit.EraseCharacter n) = Some (Xterm (own.EraseCharacters n))  -- ECH, ECMA-48 8.3.38
+edit_request modes region screen (edit.InsertCharacter n) = Some (Xterm (own.InsertCharacters n))  -- ICH, 8.3.64
+edit_request modes region screen (edit.DeleteCharacter n) = Some (Xterm (own.DeleteCharacters n))  -- DCH, 8.3.26
+edit_request modes region screen (edit.EraseInLine line.EraseToStartOfLine) =  -- EL 1
+    Some (Xterm own.EraseToStartOfLine)
+edit_request modes region screen (edit.EraseInLine line.EraseToEndOfLine) =  -- EL 0, 8.3.41
+    where_pending screen own.EraseToEndOfLine
+edit_request modes region screen (edit.EraseInDisplay display.EraseToStartOfDisplay) =  -- ED 1
+    Some (Xterm own.EraseToStartOfDisplay)
+edit_request modes region screen (edit.EraseInDisplay display.EraseToEndOfDisplay) =  -- ED 0, 8.3.39
+    where_pending screen own.EraseToEndOfDisplay
+edit_request modes region screen (edit.ScrollUp n) = Some (scroll_up_request region screen n)
+edit_request modes region screen (edit.ScrollDown n) = Some (scroll_down_request region screen n)
+edit_request modes region screen (edit.InsertLine n) =  -- IL, 8.3.67
+    where_between region screen (Xterm (own.InsertLines region n))
+edit_request modes region screen (edit.DeleteLine n) =  -- DL, 8.3.32
+    where_between region screen (Xterm (own.DeleteLines region n))
+edit_request modes region screen (edit.Repeat n) = repeat_request modes screen n
+edit_request modes region screen _ = None
 
 -- what an action asks for, if the table alone doesn't say it
 unfoldable pub xterm_request : Modes → Screen → StreamAction → Option Request
-xterm_request modes screen (stream.control number) = control_request (region_on modes screen) screen number
+xterm_request modes screen (stream.control number) =
+    control_request modes (region_on modes screen) screen number
 xterm_request modes screen (stream.esc (esc.Code known)) = escape_request (region_on modes screen) screen known
-xterm_request modes screen (stream.esc (esc.Unspecified intermediate final)) = other_designation intermediate
+xterm_request modes screen (stream.esc (esc.Unspecified intermediate final)) =
+    other_escape (region_on modes screen) screen intermediate final
 xterm_request modes screen (stream.csi (codec.cursor value)) =
     cursor_request modes (region_on modes screen) screen value
-xterm_request modes screen (stream.csi (codec.edit value)) = edit_request (region_on modes screen) screen value
+xterm_request modes screen (stream.csi (codec.edit value)) =
+    edit_request modes (region_on modes screen) screen value
 xterm_request modes screen (stream.csi (codec.mode value)) = mode_request modes (region_on modes screen) value
+xterm_request modes screen (stream.csi (codec.device value)) = device_request value
+xterm_request modes screen (stream.csi (codec.unspecified tokens truncated final)) =
+    if truncated then None else other_request modes (region_on modes screen) screen final tokens
 xterm_request modes screen _ = None

@@ -15,12 +15,13 @@ ghost use Rattle.terminal_table.specs.Logged.{run_logged, event_logged, logged};
 ghost use Rattle.terminal_table.specs.Meaning.{View, settled, event_done, after, with_size};
 ghost use Rattle.terminal_table.specs.Replies.{with_taken, without_replies};
 ghost use Rattle.terminal_table.specs.Modes.{AreNew, Modes};
-ghost use Rattle.terminal_table.specs.Requests.{AsksForNothing, acted, acted_changes};
+ghost use Rattle.terminal_table.specs.Requests.{AsksForNothing, acted, acted_changes, without_last};
 ghost use Rattle.terminal_table.specs.State.{State, IsState, new_state, new_state_with};
 ghost use Rattle.terminal_table.specs.Steps.{step, step_of};
 ghost use Rattle.terminal_table.specs.Runs.{run_changes_of, run_step};
 ghost use Rattle.terminal_table.specs.Changes.{changes, changes_of};
-ghost use Rattle.terminal_table.specs.Turns.{Turns, IsRunText, IsView, AreSizes, IsEvent, AreEvents, DecideAlike};
+ghost use Rattle.terminal_table.specs.RunText.{IsRunText};
+ghost use Rattle.terminal_table.specs.Turns.{Turns, IsView, AreSizes, IsEvent, AreEvents, DecideAlike};
 ghost use Rattle.terminal_table.specs.Turns.{replayed, all_replayed};
 
 use escape_framing::laws::{held_is_enough, idle_streams, one_cut};
@@ -56,10 +57,10 @@ pub fn actions_are_logged()
 /// On a plain terminal an action has the step, and the changes, of the control function of the table that it asks for;
 /// and a plain terminal stays one.
 pub fn plain_terminals_have_the_table()
-    ensures state { (action : StreamAction) (state : State) → state.modes ≡ None
-        → acted action state ≡ step_of (function_of action) state }
-    ensures changes { (action : StreamAction) (state : State) → state.modes ≡ None
-        → acted_changes action state ≡ changes_of (function_of action) state }
+    ensures state { (width_of : List ℕ → ℕ) (action : StreamAction) (state : State) → state.modes ≡ None
+        → acted width_of action state ≡ step_of (function_of action) state }
+    ensures changes { (width_of : List ℕ → ℕ) (action : StreamAction) (state : State) → state.modes ≡ None
+        → acted_changes width_of action state ≡ changes_of (function_of action) state }
     ensures stays { PlainTerminalsStay }
 {}
 
@@ -88,7 +89,7 @@ pub fn prints_hold_no_controls()
 
 /// An action for which the table has no control function leaves the state as it is, with the screen,
 /// its pen and title, the saved cursor and the replies, and has no changes. One that asks for nothing in the
-/// terminal's profile, and is no print, ends a run, and nothing else.
+/// terminal's profile, and is no print, ends a run, and nothing else; but that no run is then the one before.
 pub fn other_actions_end_runs()
     ensures state { (action : StreamAction) (state : State) → function_of action ≡ None
         → step_of (function_of action) state ≡ state }
@@ -96,7 +97,8 @@ pub fn other_actions_end_runs()
         → changes_of (function_of action) state ≡ [] }
     ensures view { (width_of : List ℕ → ℕ) (view : View) (action : StreamAction) → is_print action ≡ false
         → AsksForNothing view.state.modes action
-        → event_done width_of view (Act action) ≡ settled width_of view }
+        → event_done width_of view (Act action)
+        ≡ record (settled width_of view) { state = without_last (settled width_of view).state } }
     ensures logged { (width_of : List ℕ → ℕ) (view : View) (action : StreamAction) → is_print action ≡ false
         → AsksForNothing view.state.modes action → event_logged width_of view (Act action)
         ≡ run_logged width_of view }

@@ -1,6 +1,6 @@
 -- What the actions of a patch print: its texts, and nothing else of it prints, changes rows or scrolls.
 use Rattle.std.proofs.Common.{◌≡◌, ℕ, Bool, true, false, List, [], ◌∷◌, ◌++◌, map, fold, refl, sym, ap, subst, ◌∙◌, append_assoc, append-nil}
-use Rattle.std.specs.Prelude.{⊤, not, Option, Some, None, if◌then◌else◌}
+use Rattle.std.specs.Prelude.{⊤, not, Option, Some, None, option_map, if◌then◌else◌}
 use Rattle.std.specs.List.{AllByRecursion, flat_map}
 use Rattle.std.specs.Str.{IsUtf8, chars}
 use Rattle.std.proofs.lemmas.List.{map-append}
@@ -23,11 +23,12 @@ use Rattle.terminal_render.proofs.FedLemmas.{joined, terminator_done}
 use Rattle.terminal_table.specs.Functions.{function_of}
 use Rattle.terminal_table.specs.History.{Event, Act}
 use Rattle.terminal_table.specs.Meaning.{View, event_done, settled}
-use Rattle.terminal_table.specs.Modes.{Modes}
+use Rattle.terminal_table.specs.Modes.{Modes, with_last}
 use Rattle.terminal_table.specs.Requests.{acted, request_done, request_of}
 use Rattle.terminal_table.specs.Runs.{run_screen}
 use Rattle.terminal_table.specs.State.{State}
 use Rattle.terminal_table.proofs.ModesLemmas.{plain_event, settled_modes}
+use Rattle.terminal_table.proofs.RequestLemmas.{plain_last}
 use Rattle.terminal_table.proofs.RunLemmas.{no_clusters}
 use Rattle.terminal_table.proofs.TextLemmas.{with_text}
 
@@ -35,7 +36,7 @@ use Rattle.terminal_table.proofs.TextLemmas.{with_text}
 
 pub record IsQuiet (a : StreamAction) : Type 0 where
   pub separate : is_print a ≡ false
-  pub rows : (state : State) → (request_done (request_of None state.screen a) state).screen.rows ≡ state.screen.rows
+  pub rows : (width_of : List ℕ → ℕ) (state : State) → (request_done width_of (request_of None state.screen a) state).screen.rows ≡ state.screen.rows
   pub still : (state : State) → request_scrolls (request_of None state.screen a) state.screen ≡ false
 
 abbrev pub AreQuiet : List StreamAction → Type 0
@@ -47,8 +48,8 @@ quiet_append (x ∷ xs) ys p q = (p.0, quiet_append xs ys p.1 q)
 
 rendition_quiet : (value : Sgr) → IsQuiet (rendition value)
 unfolding function_of
-rendition_quiet (sgr.Font font) = record { separate = refl; rows = λ state. refl; still = λ state. refl }
-rendition_quiet _ = record { separate = refl; rows = λ state. refl; still = λ state. refl }
+rendition_quiet (sgr.Font font) = record { separate = refl; rows = λ width_of state. refl; still = λ state. refl }
+rendition_quiet _ = record { separate = refl; rows = λ width_of state. refl; still = λ state. refl }
 
 pub settings_quiet : (values : List (Option Sgr)) → AreQuiet (flat_map set values)
 settings_quiet [] = tt
@@ -60,7 +61,7 @@ reset_quiet = rendition_quiet sgr.Reset
 
 terminator_quiet : IsQuiet string_terminator
 unfolding function_of
-terminator_quiet = record { separate = refl; rows = λ state. refl; still = λ state. refl }
+terminator_quiet = record { separate = refl; rows = λ width_of state. refl; still = λ state. refl }
 
 -- ---- a plain terminal's view that holds no run
 
@@ -118,12 +119,16 @@ module _ (f : List ℕ → ℕ) where
   pub are_plain_append : (v : View) (xs ys : List StreamAction) → ArePlain v xs → ArePlain (actions_done f v xs) ys → ArePlain v (xs ++ ys)
   are_plain_append v xs ys p q = subst (ArePlainEvents f v) (sym (map-append Act xs ys)) (plain_append v (map Act xs) (map Act ys) p q)
 
+  -- a plain terminal stays one where a run ends
+  settled_plain : (v : View) → v.state.modes ≡ None → (settled f v).state.modes ≡ None
+  settled_plain v plain = let last = settled_modes f v in last.1 ∙ ap (option_map (with_last last.0)) plain
+
   -- a quiet action changes no row and scrolls nothing; where no run is held it prints nothing, and holds none
   quiet_rows : (v : View) (a : StreamAction) → v.state.modes ≡ None → IsQuiet a → (event_done f v (Act a)).state.screen.rows ≡ (run_ended f v (Act a)).state.screen.rows
   quiet_rows v a plain q =
       let own : State = (settled f v).state in
-      subst (λ b. (if b then record v { held = v.held ++ action.printed a } else record (settled f v) { state = acted a own }).state.screen.rows ≡ (if not b then settled f v else v).state.screen.rows) (sym q.separate)
-      (ap (λ (modes : Option Modes). (request_done (request_of modes own.screen a) own).screen.rows) (settled_modes f v ∙ plain) ∙ q.rows own)
+      subst (λ b. (if b then record v { held = v.held ++ action.printed a } else record (settled f v) { state = acted f a own }).state.screen.rows ≡ (if not b then settled f v else v).state.screen.rows) (sym q.separate)
+      (ap (λ (modes : Option Modes). (request_done f (request_of modes own.screen a) own).screen.rows) (settled_plain v plain) ∙ q.rows f own)
 
   quiet_still : (v : View) (a : StreamAction) → v.state.modes ≡ None → IsQuiet a → event_scrolls (Act a) (run_ended f v (Act a)).state ≡ false
   quiet_still v a plain q =
@@ -131,7 +136,7 @@ module _ (f : List ℕ → ℕ) where
       ap (λ (modes : Option Modes). request_scrolls (request_of modes own.screen a) own.screen) (choose (not (is_print a))) ∙ q.still own
     where
       choose : (b : Bool) → (if b then settled f v else v).state.modes ≡ None
-      choose true = settled_modes f v ∙ plain
+      choose true = settled_plain v plain
       choose false = plain
 
   quiet_prints : (v : View) (a : StreamAction) → v.held ≡ [] → IsQuiet a → event_prints f v (Act a) ≡ []
@@ -158,7 +163,7 @@ module _ (f : List ℕ → ℕ) where
   }
 
   quiet_held : (v : View) (a : StreamAction) → IsQuiet a → (event_done f v (Act a)).held ≡ []
-  quiet_held v a q = ap (λ b. (if b then record v { held = v.held ++ action.printed a } else record (settled f v) { state = acted a (settled f v).state }).held) q.separate
+  quiet_held v a q = ap (λ b. (if b then record v { held = v.held ++ action.printed a } else record (settled f v) { state = acted f a (settled f v).state }).held) q.separate
 
   quiet_bare : (v : View) (a : StreamAction) → IsBare v → IsQuiet a → IsBare (event_done f v (Act a))
   quiet_bare v a b q = record { run = quiet_held v a q; plain = plain_event f v (Act a) b.plain }
@@ -194,7 +199,7 @@ module _ (f : List ℕ → ℕ) where
   -- a text that is printed, and NUL
   nul_quiet : IsQuiet (control 0)
   unfolding function_of
-  nul_quiet = record { separate = refl; rows = λ state. refl; still = λ state. refl }
+  nul_quiet = record { separate = refl; rows = λ width_of state. refl; still = λ state. refl }
 
   run_of_bare : (v : View) (text : List ℕ) → IsUtf8 text → strokes_scroll f v.state.screen (map Cluster (clusters text)) ≡ false
       → Sends (bare v) (run_actions text) (strokes_print f v.state.screen (map Cluster (clusters text)))
@@ -243,11 +248,11 @@ module _ (f : List ℕ → ℕ) where
   one_done a v u = refl
 
   -- a string terminator that is added does nothing
-  added_done : (closed stands : Bool) (v : View) → (closed ≡ true → v.held ≡ []) → actions_done f v (terminator_before closed stands) ≡ v
-  added_done true true v h = refl
-  added_done true false v h = terminator_done f v (h refl)
-  added_done false true v h = refl
-  added_done false false v h = refl
+  added_done : (closed stands : Bool) (v : View) → v.state.modes ≡ None → (closed ≡ true → v.held ≡ []) → actions_done f v (terminator_before closed stands) ≡ v
+  added_done true true v plain h = refl
+  added_done true false v plain h = terminator_done f v (record { run = h refl; last = plain_last v.state plain })
+  added_done false true v plain h = refl
+  added_done false false v plain h = refl
 
   added_sends : (closed stands : Bool) (v : View) → v.state.modes ≡ None → (closed ≡ true → v.held ≡ []) → Sends v (terminator_before closed stands) []
   added_sends true true v plain h = none_sends v
@@ -271,7 +276,7 @@ module _ (f : List ℕ → ℕ) where
       let next : View = event_done f v (Act a) in
       let rest : List StreamAction = read_form_after (closes_string a) remaining in
       let added = added_sends closed stands v plain h in
-      let same : actions_done f v before ≡ v = added_done closed stands v h in
+      let same : actions_done f v before ≡ v = added_done closed stands v plain h in
       let after : actions_done f v (before ++ own) ≡ next = joined f before own v ∙ ap (λ w. actions_done f w own) same ∙ one_done a v p.utf8.0 in
       let later = read_after (closes_string a) remaining next (actions_print next remaining) (plain_event f v (Act a) plain) (closed_run a v) (record { prints = refl; plain = p.plain.1; utf8 = p.utf8.1 }) in (
         print_append v (before ++ own) rest

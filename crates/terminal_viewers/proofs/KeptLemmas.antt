@@ -17,8 +17,8 @@ use Rattle.terminal_table.specs.History.{History, Piece, Look, Resize, Forget, p
 use Rattle.terminal_table.specs.Logged.{run_logged, event_logged, events_logged, logged, log_after}
 use Rattle.terminal_table.specs.Meaning.{View, settled, event_done, after}
 use Rattle.terminal_table.specs.Modes.{resized_modes}
-use Rattle.terminal_table.specs.Request.{Request, Table, Xterm, Sets, SetsAlone, Switches, Replies}
-use Rattle.terminal_table.specs.Requests.{acted, acted_changes, request_changes, request_done, request_of}
+use Rattle.terminal_table.specs.Request.{Request, Table, Xterm, Sets, SetsAlone, Switches, Repeats, Aligns, Replies, Nothing}
+use Rattle.terminal_table.specs.Requests.{acted, acted_changes, request_changes, request_done, request_of, without_last}
 use Rattle.terminal_table.specs.State.{State}
 use Rattle.terminal_table.specs.Runs.{run_step}
 use Rattle.terminal_viewers.specs.Update.{bytes_of, due_or, painted_anew, update_of}
@@ -47,21 +47,25 @@ module _ (width_of : List ℕ → ℕ) where
       by_test true = refl
       by_test false = refl
 
-  step_with : (request : Option Request) (replies : List ℕ) (v : View) → AreAlike (record (with_replies replies v) { state = request_done request (with_replies replies v).state }) (record v { state = request_done request v.state })
+  step_with : (request : Option Request) (replies : List ℕ) (v : View)
+      → AreAlike (record (with_replies replies v) { state = without_last (request_done width_of request (with_replies replies v).state) }) (record v { state = without_last (request_done width_of request v.state) })
   step_with None replies v = record { screen = refl; saved = refl; modes = refl; stream = refl; held = refl }
   step_with (Some (Table function)) replies v = record { screen = refl; saved = refl; modes = refl; stream = refl; held = refl }
   step_with (Some (Xterm function)) replies v = record { screen = refl; saved = refl; modes = refl; stream = refl; held = refl }
   step_with (Some (Sets setting function)) replies v = record { screen = refl; saved = refl; modes = refl; stream = refl; held = refl }
   step_with (Some (SetsAlone setting)) replies v = record { screen = refl; saved = refl; modes = refl; stream = refl; held = refl }
   step_with (Some (Switches function)) replies v = record { screen = refl; saved = refl; modes = refl; stream = refl; held = refl }
+  step_with (Some (Repeats count)) replies v = record { screen = refl; saved = refl; modes = refl; stream = refl; held = refl }
+  step_with (Some Aligns) replies v = record { screen = refl; saved = refl; modes = refl; stream = refl; held = refl }
   step_with (Some (Replies text)) replies v = record { screen = refl; saved = refl; modes = refl; stream = refl; held = refl }
+  step_with (Some Nothing) replies v = record { screen = refl; saved = refl; modes = refl; stream = refl; held = refl }
 
   done_with : (replies : List ℕ) (v : View) (event : Event) → AreAlike (event_done width_of (with_replies replies v) event) (event_done width_of v event)
   done_with replies v (Act action) = by_test (is_print action) refl
     where
       by_test : (b : Bool) → is_print action ≡ b → AreAlike (event_done width_of (with_replies replies v) (Act action)) (event_done width_of v (Act action))
       by_test true e = rw e (record { screen = refl; saved = refl; modes = refl; stream = refl; held = refl })
-      by_test false e = rw e (subst (λ (x : View). AreAlike (record x { state = acted action x.state }) (record (settled width_of v) { state = acted action (settled width_of v).state }))
+      by_test false e = rw e (subst (λ (x : View). AreAlike (record x { state = acted width_of action x.state }) (record (settled width_of v) { state = acted width_of action (settled width_of v).state }))
           (sym (settled_with replies v)) (step_with (request_of (settled width_of v).state.modes (settled width_of v).state.screen action) replies (settled width_of v)))
   done_with replies v Looked = subst (λ (x : View). AreAlike x (settled width_of v)) (sym (settled_with replies v)) (record { screen = refl; saved = refl; modes = refl; stream = refl; held = refl })
   done_with replies v (Resized width tall) = let s = settled_with replies v in record {
@@ -73,19 +77,22 @@ module _ (width_of : List ℕ → ℕ) where
   }
   done_with replies v (Forgot number) = record { screen = refl; saved = refl; modes = refl; stream = refl; held = refl }
 
-  changes_with : (request : Option Request) (replies : List ℕ) (state : State) → request_changes request (record state { replies = replies }) ≡ request_changes request state
+  changes_with : (request : Option Request) (replies : List ℕ) (state : State) → request_changes width_of request (record state { replies = replies }) ≡ request_changes width_of request state
   changes_with None replies state = refl
   changes_with (Some (Table function)) replies state = refl
   changes_with (Some (Xterm function)) replies state = refl
   changes_with (Some (Sets setting function)) replies state = refl
   changes_with (Some (SetsAlone setting)) replies state = refl
   changes_with (Some (Switches function)) replies state = refl
+  changes_with (Some (Repeats count)) replies state = refl
+  changes_with (Some Aligns) replies state = refl
   changes_with (Some (Replies text)) replies state = refl
+  changes_with (Some Nothing) replies state = refl
 
   logged_with : (replies : List ℕ) (v : View) (event : Event) → event_logged width_of (with_replies replies v) event ≡ event_logged width_of v event
   logged_with replies v (Act action) =
       ap (λ (cs : List ChangeValue). if is_print action then [] else run_logged width_of v ++ map Logged cs)
-      (ap (λ (x : View). acted_changes action x.state) (settled_with replies v) ∙ changes_with (request_of (settled width_of v).state.modes (settled width_of v).state.screen action) replies (settled width_of v).state)
+      (ap (λ (x : View). acted_changes width_of action x.state) (settled_with replies v) ∙ changes_with (request_of (settled width_of v).state.modes (settled width_of v).state.screen action) replies (settled width_of v).state)
   logged_with replies v Looked = refl
   logged_with replies v (Resized width tall) = refl
   logged_with replies v (Forgot number) = refl

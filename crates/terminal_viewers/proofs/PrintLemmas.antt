@@ -50,7 +50,7 @@ use Rattle.terminal_render.specs.Spelling.{IsSpelledScreen}
 use Rattle.terminal_table.specs.Changes.{visibility}
 use Rattle.terminal_table.specs.Functions.{function_of}
 use Rattle.terminal_table.specs.Meaning.{View}
-use Rattle.terminal_table.specs.Turns.{IsPrinted}
+use Rattle.terminal_table.specs.RunText.{IsPrinted}
 use Rattle.terminal_table.proofs.RunLemmas.{one_part, printed_strokes}
 use Rattle.terminal_viewers.specs.Update.{display_on}
 use Rattle.terminal_table.proofs.PositionLemmas.{LastCell, cell_columns, last_cell_is, none_due, one_text_is}
@@ -83,12 +83,12 @@ unfolding title_rendering function_of
 title_quiet text = choose (is_plain_text text)
   where
     choose : (b : Bool) → IfQuiet (if b then Some (command (set_window_title text) ∷ []) else None)
-    choose true = (record { separate = refl; rows = λ state. refl; still = λ state. refl }, tt)
+    choose true = (record { separate = refl; rows = λ width_of state. refl; still = λ state. refl }, tt)
     choose false = tt
 
 link_quiet : (link : Option Link) → IsQuiet (link_action link)
 unfolding function_of
-link_quiet link = record { separate = refl; rows = λ state. refl; still = λ state. refl }
+link_quiet link = record { separate = refl; rows = λ width_of state. refl; still = λ state. refl }
 
 pen_quiet : (a : Attributes) → IfQuiet (pen_rendering a)
 unfolding pen_rendering
@@ -108,12 +108,12 @@ position_quiet width tall column row = choose (nat_le width column)
   where
     choose : (b : Bool) → IfQuiet (option_map (map moved) (if b then None else Some (cursor.Position (min row (tall - 1) + 1) (min column (width - 1) + 1) ∷ [])))
     choose true = tt
-    choose false = (record { separate = refl; rows = λ state. refl; still = λ state. refl }, tt)
+    choose false = (record { separate = refl; rows = λ width_of state. refl; still = λ state. refl }, tt)
 
 sight_quiet : (sight : Visibility) (width tall : ℕ) → IfQuiet (rendering (CursorVisibility sight) width tall)
 unfolding function_of
-sight_quiet Visible width tall = (record { separate = refl; rows = λ state. refl; still = λ state. refl }, tt)
-sight_quiet Hidden width tall = (record { separate = refl; rows = λ state. refl; still = λ state. refl }, tt)
+sight_quiet Visible width tall = (record { separate = refl; rows = λ width_of state. refl; still = λ state. refl }, tt)
+sight_quiet Hidden width tall = (record { separate = refl; rows = λ width_of state. refl; still = λ state. refl }, tt)
 
 of_some : {A : Type 0} (P : A → Type 0) (found : Option A) (x : A) → found ≡ Some x → IfSome found P → P x
 of_some P found x e h = subst (λ o. IfSome o P) e h

@@ -6,7 +6,7 @@ use Rattle.std.proofs.lemmas.List.{length-replicate, drop_all}
 use Rattle.std.proofs.lemmas.List.Sums.{fold-append}
 use Rattle.cell_base.specs.declared.attributes.LineAttribute.TheVariants.{SingleWidthLine}
 use Rattle.cell_base.specs.Screen.{Screen, height}
-use Rattle.screen_change.specs.ChangeValue.{ChangeValue, Text}
+use Rattle.screen_change.specs.ChangeValue.{ChangeValue}
 use Rattle.cell_surface.proofs.TextLemmas.{resized_height}
 use Rattle.screen_log.specs.Log.{Log, most_due, first_number, forgotten, resized_log, due}
 use Rattle.screen_log.specs.LogSteps as log
@@ -155,9 +155,9 @@ module _ (width_of : List ℕ → ℕ) where
   pub action_changes : (v : View) (action : StreamAction) → AreChanges (event_logged width_of v (Act action))
   action_changes v action = by_test (is_print action)
     where
-      by_test : (b : Bool) → AreChanges (if b then [] else run_logged width_of v ++ map Logged (acted_changes action (settled width_of v).state))
+      by_test : (b : Bool) → AreChanges (if b then [] else run_logged width_of v ++ map Logged (acted_changes width_of action (settled width_of v).state))
       by_test true = tt
-      by_test false = changes-append (run_logged width_of v) (map Logged (acted_changes action (settled width_of v).state)) (run_changes v) (changes-logged (acted_changes action (settled width_of v).state))
+      by_test false = changes-append (run_logged width_of v) (map Logged (acted_changes width_of action (settled width_of v).state)) (run_changes v) (changes-logged (acted_changes width_of action (settled width_of v).state))
 
   settled_shows : (shown : Screen) (number : ℕ) (v : View) (s : Sized) → IsView width_of v → IsDisplay (display_on shown) → HasReached number s → Shows width_of shown number v.state.screen s
       → Shows width_of shown number (settled width_of v).state.screen (fold step_of_kept s (run_logged width_of v))

@@ -27,7 +27,7 @@ returns-in_err-show_lines g c = λ can.
     λ i. record s {
       rows = other_rows s m.other.rows;
       column = ((λ j. restored_column m.other.with_cursor.pending s.width (found j).column) ∙ sym c.restored_column-column.ensures.column) i;
-      row = ((λ j. restored_row m.other.with_cursor.origin (region_within (can.tall j) m.region) (can.tall j) (found j).row) ∙ sym c.restored_row-row.ensures.row) i;
+      row = ((λ j. restored_row m.other.with_cursor.origin (region_within (can.0.tall j) m.region) (can.0.tall j) (found j).row) ∙ sym c.restored_row-row.ensures.row) i;
       pen = (found i).pen;
     } in
     let becomes = c.in_err-show_lines.ensures new is (screens_follow width_of screens.ShowAndRestore at leads) in
@@ -51,7 +51,7 @@ returns g c = λ can.
     λ i. record s {
       rows = other_rows s m.other.rows;
       column = ((λ j. restored_column m.other.with_cursor.pending s.width (found j).column) ∙ sym c.restored_column-column.ensures.column) i;
-      row = ((λ j. restored_row m.other.with_cursor.origin (region_within (can.tall j) m.region) (can.tall j) (found j).row) ∙ sym c.restored_row-row.ensures.row) i;
+      row = ((λ j. restored_row m.other.with_cursor.origin (region_within (can.0.tall j) m.region) (can.0.tall j) (found j).row) ∙ sym c.restored_row-row.ensures.row) i;
       pen = (found i).pen;
     } in
     let becomes = c.in_ok-show_lines.ensures new is (screens_follow width_of screens.ShowAndRestore at leads) in

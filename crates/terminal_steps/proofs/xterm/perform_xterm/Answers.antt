@@ -18,7 +18,7 @@ returns-then-current_seqno-eq18446744073709551615-clause-added g c =
     let width_of = g.W.Widths.width_of before.grid.widths in
     let state : State = record { screen = s; saved = None; replies = []; modes = None } in
     let lawful = c.surfaces_stay_lawful.ensures.lawful c.requires.stays in
-    let is : IsState width_of state = record { lawful = lawful.lawful; whole = lawful.whole; narrow = g.met.W.Widths.space_is_one before.grid.widths; sound = c.surfaces_stay_lawful.ensures.cells c.requires.stays; other = tt } in
+    let is : IsState width_of state = record { lawful = lawful.lawful; whole = lawful.whole; narrow = g.met.W.Widths.space_is_one before.grid.widths; sound = c.surfaces_stay_lawful.ensures.cells c.requires.stays; other = tt; last = tt } in
     let some : 0 < length (led s new) = led_some width_of s new (xterm_follows width_of (own_function c.args.region c.args.function) state is) in
     let number = c.current_seqno.ensures in
     let last = c.if-current_seqno-eq18446744073709551615.true in

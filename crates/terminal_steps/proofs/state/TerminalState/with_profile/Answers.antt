@@ -5,7 +5,7 @@ use Rattle.screen_effects.specs.Display.{Display, IsDisplay}
 use Rattle.screen_effects.proofs.StrokeLaws.{new_display_is}
 use Rattle.screen_log.specs.Log.{Log}
 use Rattle.terminal_table.specs.State.{IsState}
-use Rattle.terminal_table.specs.Turns.{IsPrinted}
+use Rattle.terminal_table.specs.RunText.{IsPrinted}
 use Rattle.terminal_table.proofs.StateLemmas.{new_is}
 use Rattle.terminal_table.specs.Modes.{AreNew}
 use Rattle.terminal_steps.specs.ProfileView.{kept_modes}
@@ -23,7 +23,7 @@ returns-clause-ready g c =
       stays = c.in_ok-surface.ensures.stays;
       shown = subst IsDisplay (sym c.in_ok-surface.ensures.shown) (new_display_is c.args.width c.args.height size.columns.0 size.rows.0);
       lawful = subst (λ (d : Display). IsState f (record { screen = d.screen; saved = None; replies = c.new-2.result.items; modes = kept_modes c.modes_of.result })) (sym c.in_ok-surface.ensures.shown)
-          (record { lawful = new.lawful; whole = new.whole; narrow = new.narrow; sound = new.sound; other = new.other });
+          (record { lawful = new.lawful; whole = new.whole; narrow = new.narrow; sound = new.sound; other = new.other; last = new.last });
       fits = subst (λ (l : Log). l.number < 2 ^ 64) (sym c.in_ok-surface.ensures.log) (omega arith);
       plain = subst IsPrinted (sym nothing) refl;
     }
